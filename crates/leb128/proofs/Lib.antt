@@ -1,0 +1,3 @@
+pub mod Laws
+pub mod Decoding
+pub mod Encoding
