@@ -1,0 +1,96 @@
+-- What follows, after any list of steps from a fresh table.
+--     lock-excludes      while a writer holds the lock, no other writer's step changes any scan
+--     abort-frees        an abort by the lock's holder frees the lock
+--     point-read-listed  a point read gives the key's row of the history's listing, or absent
+--     slice-stays        the slice of a committed operation never changes
+use Prim.Native.Nat.{ℕ, _+_, _<_}
+use mathlib.Core.Path.{_≡_, refl, sym, ap, _∙_}
+use mathlib.Core.Logic.{_≢_}
+use mathlib.Core.List.{List, _++_, List·Memᴰ}
+use mathlib.Core.Option.{some}
+use native.Mathlib.Omega.{arith}
+use borrow.Author.Tests.{eq-eqb, ne-eqb, lt-leb}
+use Rattle.model.specs.Limits.{writers, keys}
+use Rattle.model.specs.Counting.{listBelow}
+use Rattle.model.specs.State.{cell}
+use Rattle.model.specs.Rules.{act, abort, step}
+use Rattle.model.specs.Snapshot.{rowsAt, firstOf, pointRead}
+use Rattle.model.specs.History.{Committed, started, dropped, newestOn, rowOfNewest, listing}
+use Rattle.model.specs.Isolation.{World, next, along, after}
+use Rattle.model.specs.declared.Action.the-variants.{Abort}
+use Rattle.model.specs.declared.Step.{Step}
+use Rattle.model.proofs.CommittedAt.{committedAt-mem}
+use Rattle.model.proofs.Along.{along-keeps, along-append}
+use Rattle.model.proofs.RangeKept.{ranged}
+use Rattle.model.proofs.Slices.{cells-cell}
+use Rattle.model.proofs.Moves.{View, Move, stays, starts, continues, ends, commits}
+use Rattle.model.proofs.Invariant.{Invariant, committed-completed}
+use Rattle.model.proofs.InvariantKept.{move-keeps}
+use Rattle.model.proofs.StepMoves.{viewOf, Consistent, step-moves, step-consistent}
+use Rattle.model.proofs.Listing.{rows-of, rows-listed}
+use Rattle.model.proofs.Isolation.{beginning, reached}
+
+-- a writer that does not hold the lock commits nothing
+pub commits-nothing : (v n : View) (w : ℕ) → Invariant v → v .lock ≢ w + 1 → Move v w n → n .history .done ≡ v .history .done
+unfolding started dropped
+commits-nothing v n w i free (stays e) = ap (λ (x : View). x .history .done) e
+commits-nothing v n w i free (starts op at e) = ap (λ (x : View). x .history .done) e
+commits-nothing v n w i free (continues p e) = ap (λ (x : View). x .history .done) e
+commits-nothing v n w i free (ends at e) = ap (λ (x : View). x .history .done) e
+commits-nothing v n w i free (commits p at is e) = absurd (free (i .writer w .locks (omega arith)))
+
+rows-stay : (u : World) → Consistent u → (s : Step) → u .state .shared .lock ≢ s .writer + 1
+    → (t : ℕ) → rowsAt (step (u .state) s .state .shared) t ≡ rowsAt (u .state .shared) t
+unfolding next listing
+rows-stay u h s free t =
+    rows-listed (next u s) (step-consistent u s h) t
+    ∙ ap (λ (done : List Committed). listBelow keys (λ k. rowOfNewest (newestOn done k t)))
+    (commits-nothing (viewOf u) (viewOf (next u s)) (s .writer) (h .invariant) free (step-moves u s h))
+    ∙ sym (rows-listed u h t)
+
+pub lock-excludes : (ss : List Step) (w : ℕ) → after ss .state .shared .lock ≡ w + 1 → (s : Step) → s .writer ≢ w
+    → (t : ℕ) → rowsAt (step (after ss .state) s .state .shared) t ≡ rowsAt (after ss .state .shared) t
+lock-excludes ss w held s other = rows-stay (after ss) (reached ss) s (omega arith)
+
+pub abort-frees : (ss : List Step) (w : ℕ) → after ss .state .shared .lock ≡ w + 1
+    → step (after ss .state) (record { writer = w; action = Abort }) .state .shared .lock ≡ 0
+unfolding step act abort
+abort-frees ss w held =
+    let u = after ss in
+    let h = reached ss in
+    rw (
+      h .ranged,
+      lt-leb writers w (omega (arith, ranged (u .state) (h .ranged) .shared .lock)),
+      ne-eqb (viewOf u .writer w .phase) 0 (omega (arith, h .invariant .writer w .holds held)),
+      eq-eqb (u .state .shared .lock) (w + 1) held,
+    )
+
+pub point-read-listed : (ss : List Step) (t k : ℕ) → k < keys
+    → pointRead (after ss .state) t k ≡ firstOf (rowOfNewest (newestOn (after ss .history .done) k t))
+unfolding pointRead
+point-read-listed ss t k small = rw (reached ss .ranged, lt-leb keys k small, rows-of (after ss) (reached ss) t k small)
+
+-- what is completed stays so, with its slice
+record Stored (s g : ℕ) (v n : View) : Type 0 where
+  completed : n .completed s ≡ some g
+  cell : n .cell s ≡ v .cell s
+
+move-stored : (s g : ℕ) (v n m : View) (w : ℕ) → Invariant n → Move n w m → Stored s g v n → Stored s g v m
+move-stored s g v n m w i move h =
+    let kept = move-keeps n m w i move .shared in
+    record { completed = kept .completed s g (h .completed); cell = kept .cell s g (λ p. h .completed) ∙ h .cell }
+
+pub slice-stays : (ss more : List Step) (c : Committed) → List·Memᴰ c (after ss .history .done) → (k : ℕ) → k < keys
+    → cell (after (ss ++ more) .state .shared) (c .ts) k ≡ cell (after ss .state .shared) (c .ts) k
+slice-stays ss more c m k small =
+    let u = after ss in
+    let h = reached ss in
+    let completed = committed-completed (viewOf u) (h .invariant) (c .ts) c (committedAt-mem (u .history .done) (h .invariant .distinct) c m) in
+    let stored =
+    along-keeps (λ n. Consistent n × Stored (c .ts) (c .group) (viewOf u) (viewOf n))
+    (λ n x (r, s). (step-consistent n x r, move-stored (c .ts) (c .group) (viewOf u) _ _ (x .writer) (r .invariant) (step-moves n x r) s))
+    u more (h, record { completed = completed; cell = refl }) in
+    rw (along-append beginning ss more)
+    (sym (cells-cell (along u more .state .shared) (c .ts) k small)
+    ∙ ap (λ f. f k) (stored .1 .cell)
+    ∙ cells-cell (u .state .shared) (c .ts) k small)

@@ -1,0 +1,64 @@
+-- The invariant behind demand 3, over a view.
+-- A writer's facts grow with its phase. The slice of a committed operation is the newest one of its group before it, changed at one key.
+use Prim.Native.Nat.{ℕ, pred, _+_, _≤_, _<_}
+use mathlib.Core.Path.{_≡_, ap, _∙_}
+use mathlib.Core.Bool.{false}
+use mathlib.Core.Option.{Option, none, some}
+use Rattle.model.specs.Counting.{upd}
+use Rattle.model.specs.Rules.{keyOf}
+use Rattle.model.specs.History.{Pending, Committed}
+use Rattle.model.specs.declared.Writer.{Writer}
+use Rattle.model.specs.declared.Operation.{Operation}
+use Rattle.model.proofs.Newest.{Newest}
+use Rattle.model.proofs.CommittedAt.{committedAt, Distinct, groupIn}
+use Rattle.model.proofs.Moves.{View, leftBy, leaves}
+
+-- an operation in progress: `o` is the history's pending one, on key k, leaving r there, under the timestamp n;
+-- n is issued, and nothing is completed at it (`done` is what is)
+pub record InProgress (o : Option Pending) (last : ℕ) (done : Option ℕ) (k : ℕ) (r : Option ℕ) (n : ℕ) : Type 0 where
+  pub pending : Pending
+  pub is : o ≡ some pending
+  pub key : keyOf (pending .operation) ≡ k
+  pub left : leftBy (pending .operation) ≡ r
+  pub ts : pending .ts ≡ n
+  pub positive : 0 < n
+  pub issued : n ≤ last
+  pub uncompleted : done ≡ none
+
+-- a base b under the timestamp n: 0, or completed in group g
+pub record Based (completed : ℕ → Option ℕ) (g b n : ℕ) : Type 0 where
+  pub before : b < n
+  pub hit : 0 < b → completed b ≡ some g
+
+-- what holds of writer w, whose record is x, by its phase
+pub record WriterFacts (v : View) (w : ℕ) (x : Writer) : Type 0 where
+  pub ready : x .phase ≡ 0 → v .history .pending w ≡ none
+  pub inProgress : 0 < x .phase → InProgress (v .history .pending w) (v .last) (v .completed (x .ts)) (x .key) (leaves x) (x .ts)
+  pub removes : 1 < x .phase → x .put ≡ false → v .entry (x .key) ≡ x .group + 1
+  pub based : 2 < x .phase → Based (v .completed) (x .group) (x .base) (x .ts)
+  pub written : 3 < x .phase → (k : ℕ) → v .cell (x .ts) k ≡ upd (v .cell (x .base)) (x .key) (leaves x) k
+  pub indexed : 4 < x .phase → v .entry (x .key) ≡ x .group + 1
+  pub locks : 4 < x .phase → v .lock ≡ w + 1
+  pub holds : v .lock ≡ w + 1 → 4 < x .phase
+  pub latest : 5 < x .phase → (s : ℕ) → v .completed s ≡ some (x .group) → s ≤ x .base
+
+-- what holds of the operation op, committed at s in group g
+pub record CommittedFacts (v : View) (s g : ℕ) (op : Operation) : Type 0 where
+  pub base : ℕ
+  pub newest : Newest (v .completed) g (pred s) base
+  pub rows : (k : ℕ) → v .cell s k ≡ upd (v .cell base) (keyOf op) (leftBy op) k
+  pub indexed : v .entry (keyOf op) ≡ g + 1
+
+pub record Invariant (v : View) : Type 0 where
+  pub last : v .history .last ≡ v .last
+  pub distinct : Distinct (v .history .done)
+  pub linked : (s : ℕ) → v .completed s ≡ groupIn (committedAt (v .history .done) s)
+  pub above : (s : ℕ) → v .last < s → v .completed s ≡ none
+  pub empty : (k : ℕ) → v .cell 0 k ≡ none
+  pub committed : (s : ℕ) (c : Committed) → committedAt (v .history .done) s ≡ some c → CommittedFacts v s (c .group) (c .operation)
+  pub writer : (w : ℕ) → WriterFacts v w (v .writer w)
+  pub apart : (a b : ℕ) → 0 < v .writer a .phase → 0 < v .writer b .phase → v .writer a .ts ≡ v .writer b .ts → a ≡ b
+
+pub committed-completed : (v : View) → Invariant v → (s : ℕ) (c : Committed) → committedAt (v .history .done) s ≡ some c
+    → v .completed s ≡ some (c .group)
+committed-completed v i s c e = i .linked s ∙ ap groupIn e

@@ -1,0 +1,126 @@
+-- Demand 3 of document 00, for every list of steps from a fresh table: `isolated`.
+-- `reached` says that every table reached is consistent with its history, `listing-stays` that the listing at a settled timestamp stays.
+use Prim.Native.Nat.{ℕ, zero, suc, _≤_, _<_}
+use mathlib.Core.Path.{_≡_, refl, subst⁻¹, ap, _∙_, fun-ext}
+use mathlib.Core.List.{List}
+use mathlib.Core.Option.{none, some}
+use native.Mathlib.Omega.{arith}
+use lib.ListN.{replicate}
+use Rattle.model.specs.Limits.{writers, keys, timestamps}
+use Rattle.model.specs.Counting.{upd, listBelow}
+use Rattle.model.specs.State.{ready, fresh}
+use Rattle.model.specs.History.{Pending, History, empty, started, joined, dropped, newestOn, rowOfNewest, listing}
+use Rattle.model.specs.Isolation.{World, along, after, Isolated}
+use Rattle.model.specs.declared.Writer.{Writer}
+use Rattle.model.specs.declared.Step.{Step}
+use Rattle.model.proofs.Functions.{none-some, some-inj, upd-ind, getD-fresh}
+use Rattle.model.proofs.CompletedInstants.{groupCompleted, completedAt}
+use Rattle.model.proofs.Along.{along-keeps, along-append}
+use Rattle.model.proofs.RangeKept.{fresh-in-range}
+use Rattle.model.proofs.CommittedAt.{committedAt, newest-on-later}
+use Rattle.model.proofs.Slices.{cells-zero}
+use Rattle.model.proofs.Lengths.{fresh-sized}
+use Rattle.model.proofs.Moves.{View, Move, stays, starts, continues, ends, commits}
+use Rattle.model.proofs.InvariantKept.{ready-facts}
+use Rattle.model.proofs.StepMoves.{viewOf, Consistent, step-moves, step-consistent}
+use Rattle.model.proofs.Listing.{in-slice, scan-listed}
+
+-- the fresh table and the empty history satisfy the invariant
+abbrev pub beginning : World
+beginning = record { state = fresh; history = empty }
+
+fresh-completed : (s : ℕ) → completedAt (replicate timestamps 0) s ≡ none
+unfolding groupCompleted
+fresh-completed zero = refl
+fresh-completed (suc n) = ap groupCompleted (getD-fresh timestamps n 0)
+
+fresh-writer : (w : ℕ) → viewOf beginning .writer w ≡ ready
+unfolding fresh
+fresh-writer w = getD-fresh writers w ready
+
+fresh-consistent : Consistent beginning
+unfolding fresh empty committedAt
+fresh-consistent =
+    record {
+      sized = fresh-sized;
+      ranged = fresh-in-range;
+      invariant =
+          record {
+            last = refl;
+            distinct = tt;
+            linked = fresh-completed;
+            above = λ s p. fresh-completed s;
+            empty = cells-zero _ _;
+            committed = λ s c e. absurd (none-some refl e);
+            writer = λ w. rw (getD-fresh writers w ready) (ready-facts (viewOf beginning) w refl (λ e. omega arith));
+            apart = λ a b p q e. absurd (omega (arith, ap (λ (x : Writer). x .phase) (fresh-writer a)));
+          };
+    }
+
+pub along-consistent : (u : World) (ss : List Step) → Consistent u → Consistent (along u ss)
+along-consistent = along-keeps Consistent step-consistent
+
+pub reached : (ss : List Step) → Consistent (after ss)
+reached ss = along-consistent beginning ss fresh-consistent
+
+-- the timestamp t is issued, every operation in progress holds a later one, and what is committed at or before t is what `h` has
+pub record Settled (t : ℕ) (h n : History) : Type 0 where
+  pub issued : t ≤ n .last
+  pub later : (w : ℕ) (p : Pending) → n .pending w ≡ some p → t < p .ts
+  pub same : (k : ℕ) → newestOn (n .done) k t ≡ newestOn (h .done) k t
+
+module _ (t : ℕ) (h : History) (v : View) (w : ℕ) (s : Settled t h (v .history)) where
+  abbrev SettledIn : View → Type 0
+  SettledIn x = Settled t h (x .history)
+
+  -- writer w's operation is no longer pending
+  later-without : (u : ℕ) (p : Pending) → upd (v .history .pending) w none u ≡ some p → t < p .ts
+  later-without u p =
+      upd-ind (v .history .pending) w none (λ u o. o ≡ some p → t < p .ts) (λ e. absurd (none-some refl e)) (λ u ne. s .later u p) u
+
+  move-settled : (n : View) → Move v w n → Settled t h (n .history)
+  unfolding started dropped joined
+  move-settled n (stays e) = subst⁻¹ SettledIn e s
+  move-settled n (starts op at e) =
+      subst⁻¹ SettledIn e
+      (record {
+        issued = omega (arith, s .issued);
+        later =
+            λ u p.
+            upd-ind (v .history .pending) w _ (λ u o. o ≡ some p → t < p .ts)
+            (λ q. omega (arith, s .issued, ap (λ (o : Pending). o .ts) (some-inj refl q))) (λ u ne. s .later u p) u;
+        same = s .same;
+      })
+  move-settled n (continues p e) = subst⁻¹ SettledIn e s
+  move-settled n (ends at e) =
+      subst⁻¹ SettledIn e (record { issued = s .issued; later = later-without; same = s .same })
+  move-settled n (commits p at is e) =
+      subst⁻¹ SettledIn e
+      (record {
+        issued = s .issued;
+        later = later-without;
+        same = λ k. newest-on-later _ (v .history .done) k t (s .later w p is) ∙ s .same k;
+      })
+
+-- the listing at such a timestamp stays, whatever steps follow
+pub listing-stays : (t : ℕ) (u : World) (ss : List Step) → Consistent u → Settled t (u .history) (u .history)
+    → listing (along u ss .history) t ≡ listing (u .history) t
+unfolding listing
+listing-stays t u ss h s =
+    let kept =
+    along-keeps (λ n. Consistent n × Settled t (u .history) (n .history))
+    (λ n x (c, s). (step-consistent n x c, move-settled t (u .history) (viewOf n) (x .writer) s _ (step-moves n x c))) u ss (h, s) in
+    ap (listBelow keys) (fun-ext (λ k. ap rowOfNewest (kept .1 .same k)))
+
+pub isolated : (ss : List Step) → Isolated ss
+isolated ss =
+    let h = reached ss in
+    record {
+      lists = scan-listed (after ss) h;
+      apart =
+          λ c d p q k x y small e f. omega (arith, in-slice (after ss) h c p k x small e, in-slice (after ss) h d q k y small f);
+      stays =
+          λ t positive issued later more buffer room.
+          let same = listing-stays t (after ss) more h (record { issued = issued; later = later; same = λ k. refl }) in
+          rw (along-append beginning ss more, ← same) (scan-listed (along (after ss) more) (along-consistent (after ss) more h) t buffer (rw same room));
+    }

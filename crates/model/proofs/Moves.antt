@@ -1,0 +1,112 @@
+-- What the theorems see of a table and its history, with functions in place of lists, and what a step can make of it: a `Move`.
+use Prim.Native.Nat.{ℕ, _+_, _≤_, _<_}
+use mathlib.Core.Path.{_≡_}
+use mathlib.Core.Logic.{_≢_}
+use mathlib.Core.Bool.{true, false, cond}
+use mathlib.Core.Option.{Option, none, some}
+use lib.Dec.{eqb}
+use Rattle.model.specs.Counting.{upd}
+use Rattle.model.specs.State.{ready}
+use Rattle.model.specs.Rules.{begun, moved}
+use Rattle.model.specs.History.{Pending, History, started, joined, dropped}
+use Rattle.model.specs.declared.Writer.{Writer}
+use Rattle.model.specs.declared.Operation.{Operation}
+use Rattle.model.specs.declared.Operation.the-variants.{Put, Remove}
+use Rattle.model.specs.declared.Action.the-variants.{Start}
+use Rattle.model.proofs.Newest.{Newest}
+
+pub record View : Type 0 where
+  pub last : ℕ
+  pub lock : ℕ
+  pub entry : ℕ → ℕ  -- of each key: 0, or its file group + 1
+  pub completed : ℕ → Option ℕ  -- the file group of each completed timestamp
+  pub cell : ℕ → ℕ → Option ℕ  -- the value of each key in the slice of each timestamp
+  pub writer : ℕ → Writer
+  pub history : History
+
+-- what an operation, and a writer with its operation, leave at the key
+abbrev pub leftBy : Operation → Option ℕ
+leftBy (Put k v g) = some v
+leftBy (Remove k) = none
+
+abbrev pub leaves : Writer → Option ℕ
+leaves x = cond (x .put) (some (x .value)) none
+
+-- the lock after writer w's operation
+abbrev pub released : ℕ → ℕ → ℕ
+released l w = cond (eqb l (w + 1)) 0 l
+
+-- writer w starts an operation
+abbrev pub afterStart : View → ℕ → Operation → View
+afterStart v w op =
+    record {
+      last = v .last + 1;
+      lock = v .lock;
+      entry = v .entry;
+      completed = v .completed;
+      cell = v .cell;
+      writer = upd (v .writer) w (begun op (v .last + 1));
+      history = started (v .history) w (Start op);
+    }
+
+-- writer w goes on as x, with the lock, the index and the slices given
+abbrev pub afterPhase : View → ℕ → Writer → ℕ → (ℕ → ℕ) → (ℕ → ℕ → Option ℕ) → View
+afterPhase v w x lock entry cell =
+    record {
+      last = v .last;
+      lock = lock;
+      entry = entry;
+      completed = v .completed;
+      cell = cell;
+      writer = upd (v .writer) w x;
+      history = v .history;
+    }
+
+-- writer w's operation ends without commit
+abbrev pub afterEnd : View → ℕ → View
+afterEnd v w =
+    record {
+      last = v .last;
+      lock = released (v .lock) w;
+      entry = v .entry;
+      completed = v .completed;
+      cell = v .cell;
+      writer = upd (v .writer) w ready;
+      history = dropped (v .history) w;
+    }
+
+-- writer w commits its pending operation p
+abbrev pub afterCommit : View → ℕ → Pending → View
+afterCommit v w p =
+    record {
+      last = v .last;
+      lock = released (v .lock) w;
+      entry = v .entry;
+      completed = upd (v .completed) (v .writer w .ts) (some (v .writer w .group));
+      cell = v .cell;
+      writer = upd (v .writer) w ready;
+      history = joined (v .history) w (λ n. v .writer w .group) (some p);
+    }
+
+-- writer w, whose record is x, goes on to its next phase: what its record, the lock, the index and the slices become
+pub data NextPhase (v : View) (w : ℕ) (x : Writer) : Writer → ℕ → (ℕ → ℕ) → (ℕ → ℕ → Option ℕ) → Type 0 where
+  looksUp : (g : ℕ) → x .phase ≡ 1 → (x .put ≡ false → v .entry (x .key) ≡ g + 1)
+      → NextPhase v w x (moved x 2 g (x .base)) (v .lock) (v .entry) (v .cell)
+  reads : (b : ℕ) → x .phase ≡ 2 → Newest (v .completed) (x .group) (v .last) b → b ≤ x .ts
+      → NextPhase v w x (moved x 3 (x .group) b) (v .lock) (v .entry) (v .cell)
+  writes : x .phase ≡ 3
+      → NextPhase v w x (moved x 4 (x .group) (x .base)) (v .lock) (v .entry) (upd (v .cell) (x .ts) (upd (v .cell (x .base)) (x .key) (leaves x)))
+  indexes : (e : ℕ → ℕ) → (x .put ≡ true → e ≡ upd (v .entry) (x .key) (x .group + 1)) → (x .put ≡ false → e ≡ v .entry) → x .phase ≡ 4
+      → (v .lock ≢ 0 → v .lock ≡ w + 1) → (v .entry (x .key) ≢ 0 → v .entry (x .key) ≡ x .group + 1)
+      → NextPhase v w x (moved x 5 (x .group) (x .base)) (w + 1) e (v .cell)
+  checks : (b : ℕ) → x .phase ≡ 5 → Newest (v .completed) (x .group) (v .last) b → b ≤ x .base
+      → NextPhase v w x (moved x 6 (x .group) (x .base)) (v .lock) (v .entry) (v .cell)
+
+-- what a step of writer w makes of a view
+pub data Move (v : View) (w : ℕ) (n : View) : Type 0 where
+  stays : n ≡ v → Move v w n
+  starts : (op : Operation) → v .writer w .phase ≡ 0 → n ≡ afterStart v w op → Move v w n
+  continues : {x : Writer} {l : ℕ} {e : ℕ → ℕ} {c : ℕ → ℕ → Option ℕ} → NextPhase v w (v .writer w) x l e c
+      → n ≡ afterPhase v w x l e c → Move v w n
+  ends : 0 < v .writer w .phase → n ≡ afterEnd v w → Move v w n
+  commits : (p : Pending) → v .writer w .phase ≡ 6 → v .history .pending w ≡ some p → n ≡ afterCommit v w p → Move v w n

@@ -1,0 +1,62 @@
+-- No table reached from a fresh one gives 17.
+--     step-in-range        a step leaves a state in range in range
+--     reached-in-range     a state reached from the fresh one is in range
+--     never-out-of-range   so no step there is answered 17
+use Prim.Native.Nat.{ℕ, _<_, _≤_}
+use native.Mathlib.Nat.{le-trans}
+use native.Mathlib.Omega.{arith}
+use mathlib.Core.Bool.{true, true≢false}
+use mathlib.Core.List.{List}
+use mathlib.Core.Path.{_≡_, refl, sym, _∙_}
+use Rattle.model.specs.Limits.{writers}
+use Rattle.model.specs.Answers.{outOfRange}
+use Rattle.model.specs.Counting.{eachBelow}
+use Rattle.model.specs.State.{State, ready, fresh}
+use Rattle.model.specs.Range.{writersInRange, indexInRange, instantsInRange, noneAbove, inRange}
+use Rattle.model.specs.Rules.{Outcome, act, Answered, updated, step}
+use Rattle.model.specs.Isolation.{next, after}
+use Rattle.model.specs.declared.Writer.{Writer}
+use Rattle.model.specs.declared.Step.{Step}
+use Rattle.model.proofs.Cases.{cond-iff, facts, set-ind}
+pub use Rattle.model.proofs.Ranged.{WriterRanged, Ranged, ranged, in-range}
+use Rattle.model.proofs.Along.{along-keeps}
+use Rattle.model.proofs.Actions.{Kept, act-sound}
+
+later-ranged : {last n : ℕ} {x : Writer} → last ≤ n → WriterRanged last x → WriterRanged n x
+later-ranged h g =
+    record { key = g .key; group = g .group; phase = g .phase; ts = le-trans (g .ts) h; base = le-trans (g .base) h; issued = g .issued }
+
+updated-ranged : (st : State) (w : ℕ) (o : Outcome) → Ranged st → Kept (st .shared .last) o → Ranged (updated st w o .state)
+updated-ranged st w o r k =
+    record {
+      shared = k .shared;
+      writer =
+          set-ind (λ v y. v < writers → WriterRanged (o .shared .last) y) (st .writers) w (o .writer) ready
+          (λ _. k .writer)
+          (λ v l. later-ranged (k .grows) (r .writer v l));
+    }
+
+module _ (st : State) (s : Step) (e : inRange st ≡ true) where
+  pub step-in-range : inRange (step st s .state) ≡ true
+  unfolding step
+  step-in-range =
+      let r : Ranged st = ranged st e in
+      simp (cond-iff (λ (a : Answered). inRange (a .state) ≡ true), facts)
+      (λ _. e, λ _. (λ _. e, λ l. in-range _ (updated-ranged st (s .writer) (act _ _ _ _) r (act-sound _ _ _ _ .kept l (r .shared) (r .writer (s .writer) l)))))
+
+  pub answer-in-range : step st s .answer < outOfRange
+  unfolding step
+  answer-in-range =
+      simp (cond-iff (λ (a : Answered). a .answer < outOfRange), facts)
+      (λ h. absurd (true≢false (sym e ∙ h)), λ _. (λ _. omega arith, λ _. act-sound _ _ _ (s .action) .answer))
+
+pub fresh-in-range : inRange fresh ≡ true
+unfolding inRange writersInRange indexInRange instantsInRange noneAbove eachBelow fresh
+fresh-in-range = refl
+
+pub reached-in-range : (ss : List Step) → inRange (after ss .state) ≡ true
+unfolding next
+reached-in-range ss = along-keeps (λ u. inRange (u .state) ≡ true) (λ u s e. step-in-range (u .state) s e) _ ss fresh-in-range
+
+pub never-out-of-range : (ss : List Step) (s : Step) → step (after ss .state) s .answer ≡ outOfRange → ⊥
+never-out-of-range ss s e = omega (arith, answer-in-range (after ss .state) s (reached-in-range ss), e)

@@ -1,0 +1,76 @@
+-- The test of answer 17 as facts about numbers.
+--     ranged      a state that passes the test has its numbers in range
+--     in-range    and the other way
+use Prim.Native.Nat.{ℕ, _<_, _≤_}
+use native.Mathlib.Omega.{arith}
+use mathlib.Core.Bool.{true}
+use mathlib.Core.List.{List}
+use mathlib.Core.Path.{_≡_}
+use lib.ListN.{getD}
+use Rattle.model.specs.Limits.{writers, keys, groups, timestamps}
+use Rattle.model.specs.State.{Shared, State, completed, ready}
+use Rattle.model.specs.Range.{writersInRange, indexInRange, instantsInRange, noneAbove, inRange}
+use Rattle.model.specs.declared.Writer.{Writer}
+use Rattle.model.proofs.EachBelow.{below-iff}
+use Rattle.model.proofs.Cases.{facts}
+
+pub record WriterRanged (last : ℕ) (x : Writer) : Type 0 where
+  pub key : x .key < keys
+  pub group : x .group < groups
+  pub phase : x .phase ≤ 6
+  pub ts : x .ts ≤ last
+  pub base : x .base ≤ last
+  pub issued : 0 < x .phase → 0 < x .ts
+
+-- the instant y at the place i
+pub record InstantRanged (last i y : ℕ) : Type 0 where
+  pub coded : y < completed groups
+  pub above : last ≤ i → y ≡ 0
+
+-- the last timestamp n, the lock l, the index and the timeline
+pub record MetadataRanged (n l : ℕ) (index timeline : List ℕ) : Type 0 where
+  pub last : n ≤ timestamps
+  pub lock : l ≤ writers
+  pub entry : (k : ℕ) → k < keys → getD index k 0 ≤ groups
+  pub instant : (i : ℕ) → i < timestamps → InstantRanged n i (getD timeline i 0)
+
+abbrev pub SharedRanged : Shared → Type 0
+SharedRanged s = MetadataRanged (s .last) (s .lock) (s .index) (s .timeline)
+
+pub record Ranged (st : State) : Type 0 where
+  pub shared : SharedRanged (st .shared)
+  pub writer : (w : ℕ) → w < writers → WriterRanged (st .shared .last) (getD (st .writers) w ready)
+
+module _ (st : State) where
+  pub ranged : inRange st ≡ true → Ranged st
+  unfolding inRange writersInRange indexInRange instantsInRange noneAbove
+  ranged e =
+      let (last, (lock, (writer, (entry, (coded, above))))) = simp (facts, below-iff) at e in
+      record {
+        shared =
+            record {
+              last = last;
+              lock = lock;
+              entry = entry;
+              instant = λ i l. record { coded = coded i l; above = λ a. above i l (omega arith) };
+            };
+        writer =
+            λ w l.
+            let (key, (group, (phase, (ts, (base, issued))))) = writer w l in
+            record { key = key; group = group; phase = phase; ts = ts; base = base; issued = λ p. issued (λ z. omega (arith, z)) };
+      }
+
+  pub in-range : Ranged st → inRange st ≡ true
+  unfolding inRange writersInRange indexInRange instantsInRange noneAbove
+  in-range r =
+      let s = r .shared in
+      simp (facts, below-iff) (
+        s .last,
+        (
+          s .lock,
+          (
+            λ w l. let x = r .writer w l in (x .key, (x .group, (x .phase, (x .ts, (x .base, λ p. x .issued (omega (arith, p))))))),
+            (s .entry, (λ i l. s .instant i l .coded, λ i l a. s .instant i l .above (omega arith))),
+          ),
+        ),
+      )

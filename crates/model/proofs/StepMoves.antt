@@ -1,0 +1,177 @@
+-- A step of the table, with the history fed by it, is a move of the view (`step-moves`), and so it keeps the invariant (`step-consistent`).
+use Prim.Native.Nat.{ℕ, suc, _+_, _-_, _≤_, _<_}
+use mathlib.Core.Path.{_≡_, refl, sym, ap, _∙_}
+use mathlib.Core.List.{List}
+use mathlib.Core.Bool.{true, true≢false}
+use mathlib.Core.Option.{some}
+use native.Mathlib.Omega.{arith}
+use lib.ListN.{length, getD, set}
+use lib.Seq.{set-getD}
+use borrow.Author.Tests.{ne-eqb, le-leb, lt-leb}
+use Rattle.model.specs.Limits.{writers, timestamps}
+use Rattle.model.specs.Answers.{taken, committed, aborted}
+use Rattle.model.specs.Counting.{upd}
+use Rattle.model.specs.State.{Shared, requested, inflight, completed, ready}
+use Rattle.model.specs.Range.{inRange}
+use Rattle.model.specs.Rules.{Outcome, begun, Answered, updated, step}
+use Rattle.model.specs.Snapshot.{instantOf, instantAt}
+use Rattle.model.specs.History.{Pending, History, started, joined, dropped, fed}
+use Rattle.model.specs.Isolation.{groupGiven, World, next}
+use Rattle.model.specs.declared.Writer.{Writer}
+use Rattle.model.specs.declared.Action.{Action}
+use Rattle.model.specs.declared.Step.{Step}
+use Rattle.model.proofs.Cases.{cond-iff, facts}
+use Rattle.model.proofs.Functions.{upd-same, upd-id, getD-upd}
+use Rattle.model.proofs.CompletedInstants.{groupCompleted, completedAt, completed-group, requested-group, inflight-group, instant-next, instant-set, completed-upd, newest-of, group-given}
+use Rattle.model.proofs.RangeKept.{WriterRanged, ranged, step-in-range}
+use Rattle.model.proofs.Outcomes.{Acted, isRefused, isEnded, hasStarted, hasFound, hasProposed, hasRead, hasWritten, hasEntered, hasChecked, hasCommitted, acts}
+use Rattle.model.proofs.Slices.{cells, cells-sliced}
+use Rattle.model.proofs.Lengths.{Sized, step-sized}
+use Rattle.model.proofs.Moves.{View, afterStart, afterPhase, afterEnd, afterCommit, looksUp, reads, writes, indexes, checks, Move, stays, starts, continues, ends, commits}
+use Rattle.model.proofs.Invariant.{Invariant}
+use Rattle.model.proofs.InvariantKept.{move-keeps}
+
+abbrev pub viewOf : World → View
+viewOf u =
+    record {
+      last = u .state .shared .last;
+      lock = u .state .shared .lock;
+      entry = λ k. getD (u .state .shared .index) k 0;
+      completed = completedAt (u .state .shared .timeline);
+      cell = cells (u .state .shared .present) (u .state .shared .values);
+      writer = λ w. getD (u .state .writers) w ready;
+      history = u .history;
+    }
+
+-- a table and a history that satisfy the invariant
+pub record Consistent (u : World) : Type 0 where
+  pub sized : Sized (u .state)
+  pub ranged : inRange (u .state) ≡ true
+  pub invariant : Invariant (viewOf u)
+
+view-path : (v n : View) → v .last ≡ n .last → v .lock ≡ n .lock → v .entry ≡ n .entry → v .completed ≡ n .completed → v .cell ≡ n .cell
+    → v .writer ≡ n .writer → v .history ≡ n .history → v ≡ n
+view-path v n p q r s t x h = λ i. record { last = p i; lock = q i; entry = r i; completed = s i; cell = t i; writer = x i; history = h i }
+
+-- the history after an answer
+fed-refused : (h : History) (s : Step) (n : ℕ) (g : ℕ → ℕ) → aborted < n → fed h s n g ≡ h
+unfolding fed
+fed-refused h s n g p = rw (ne-eqb n taken (omega arith), ne-eqb n committed (omega arith), lt-leb n aborted p)
+
+fed-ended : (h : History) (s : Step) (n : ℕ) (g : ℕ → ℕ) → committed < n → n ≤ aborted → fed h s n g ≡ dropped h (s .writer)
+unfolding fed
+fed-ended h s n g p q = rw (ne-eqb n taken (omega arith), ne-eqb n committed (omega arith), le-leb n aborted q)
+
+fed-taken : (h : History) (s : Step) (g : ℕ → ℕ) → fed h s taken g ≡ started h (s .writer) (s .action)
+unfolding fed
+fed-taken h s g = refl
+
+fed-committed : (h : History) (s : Step) (g : ℕ → ℕ) → fed h s committed g ≡ joined h (s .writer) g (h .pending (s .writer))
+unfolding fed
+fed-committed h s g = refl
+
+joined-group : (h : History) (w : ℕ) (p : Pending) (g i : ℕ → ℕ) → g (p .ts) ≡ i (p .ts) → joined h w g (some p) ≡ joined h w i (some p)
+unfolding joined
+joined-group h w p g i e = rw e
+
+-- the world after an answer
+abbrev answeredBy : World → Step → Answered → World
+answeredBy u s r = record { state = r .state; history = fed (u .history) s (r .answer) (λ n. groupGiven (instantAt (r .state) n)) }
+
+module _ (u : World) (h : Consistent u) (w : ℕ) (there : w < writers) where
+  abbrev v : View
+  v = viewOf u
+
+  abbrev sh : Shared
+  sh = u .state .shared
+
+  abbrev x : Writer
+  x = v .writer w
+
+  fits : WriterRanged (sh .last) x
+  fits = ranged (u .state) (h .ranged) .writer w there
+
+  issued : x .ts ≤ timestamps
+  issued = omega (arith, fits .ts, ranged (u .state) (h .ranged) .shared .last)
+
+  listed : x .ts ≤ length (sh .timeline)
+  listed = omega (arith, issued, h .sized .timeline)
+
+  writer-path : (y : Writer) → (λ (i : ℕ). getD (set (u .state .writers) w y) i ready) ≡ upd (v .writer) w y
+  writer-path y = getD-upd (u .state .writers) w y ready (omega (arith, h .sized .writers))
+
+  entry-path : (i : List ℕ) {l : List ℕ} → i ≡ l → _≡_ {A = ℕ → ℕ} (λ k. getD i k 0) (λ k. getD l k 0)
+  entry-path i e = ap {B = ℕ → ℕ} (λ (l : List ℕ) (k : ℕ). getD l k 0) e
+
+  acted-moves : {a : Action} {o : Outcome} → Acted x w sh a o → inRange (updated (u .state) w o .state) ≡ true
+      → Move v w (viewOf (answeredBy u (record { writer = w; action = a }) (updated (u .state) w o)))
+  unfolding started
+  acted-moves (isRefused a n p) fine =
+      stays
+      (view-path _ v refl refl refl refl refl
+      (ap {B = ℕ → Writer} (λ (l : List Writer) (i : ℕ). getD l i ready) (set-getD (u .state .writers) w ready)) (fed-refused _ _ n _ (omega arith)))
+  acted-moves (isEnded a n p) fine = ends (p .2) (view-path _ (afterEnd v w) refl refl refl refl refl (writer-path ready) (fed-ended _ _ n _ (p .0) (p .1)))
+  acted-moves (hasStarted op k g p l) fine =
+      starts op p
+      (view-path _ (afterStart v w op) refl refl refl
+      (completed-upd (sh .timeline) _ (suc (sh .last)) requested (instant-next (sh .timeline) (sh .last) requested (omega (arith, h .sized .timeline)))
+      ∙ upd-id (v .completed) (suc (sh .last)) _ (h .invariant .above (suc (sh .last)) (omega arith) ∙ sym requested-group))
+      refl (writer-path (begun op (sh .last + 1))) (fed-taken _ _ _))
+  acted-moves (hasFound p ne) fine =
+      continues (looksUp (v .entry (x .key) - 1) p (λ r. omega arith))
+      (view-path _ (afterPhase v w _ _ _ _) refl refl refl refl refl (writer-path _) (fed-taken _ _ _))
+  acted-moves (hasProposed p put) fine =
+      continues (looksUp _ p (λ r. absurd (true≢false (sym put ∙ r))))
+      (view-path _ (afterPhase v w _ _ _ _) refl refl refl refl refl (writer-path _) (fed-taken _ _ _))
+  acted-moves (hasRead p q) fine =
+      continues (reads _ p (newest-of (sh .timeline) (x .group) (sh .last)) q)
+      (view-path _ (afterPhase v w _ _ _ _) refl refl refl
+      (completed-upd (sh .timeline) _ (x .ts) (inflight (x .group)) (instant-set (sh .timeline) (x .ts) (inflight (x .group)) (fits .issued (omega arith)) listed)
+      ∙ upd-id (v .completed) (x .ts) _ (h .invariant .writer w .inProgress (omega arith) .uncompleted ∙ sym (inflight-group (x .group) (fits .group))))
+      refl (writer-path _) (fed-taken _ _ _))
+  acted-moves (hasWritten p) fine =
+      continues (writes p)
+      (view-path _ (afterPhase v w _ _ _ _) refl refl refl refl
+      (cells-sliced (sh .present) (sh .values) x (fits .issued (omega arith)) (fits .key) (omega (arith, issued, h .sized .present))
+      (omega (arith, issued, h .sized .values)))
+      (writer-path _) (fed-taken _ _ _))
+  acted-moves (hasEntered i p e) fine =
+      continues
+      (indexes (λ k. getD i k 0) (λ put. entry-path i (e .put put) ∙ getD-upd (sh .index) (x .key) _ 0 (omega (arith, fits .key, h .sized .index)))
+      (λ remove. entry-path i (e .remove remove)) p (e .free) (e .same))
+      (view-path _ (afterPhase v w _ _ _ _) refl refl refl refl refl (writer-path _) (fed-taken _ _ _))
+  acted-moves (hasChecked p q) fine =
+      continues (checks _ p (newest-of (sh .timeline) (x .group) (sh .last)) q)
+      (view-path _ (afterPhase v w _ _ _ _) refl refl refl refl refl (writer-path _) (fed-taken _ _ _))
+  acted-moves (hasCommitted i p is) fine =
+      let b = h .invariant .writer w .inProgress (omega arith) in
+      let done = instant-set (sh .timeline) (x .ts) i (fits .issued (omega arith)) listed in
+      let given = group-given _ (b .pending .ts) (x .group) fine (rw (b .ts, done) (upd-same (instantOf (sh .timeline)) (x .ts) i ∙ is)) in
+      commits (b .pending) p (b .is)
+      (view-path _ (afterCommit v w (b .pending)) refl refl refl
+      (completed-upd (sh .timeline) _ (x .ts) i done ∙ ap (upd (v .completed) (x .ts)) (ap groupCompleted is ∙ completed-group (x .group)))
+      refl (writer-path ready)
+      (fed-committed _ _ _ ∙ ap (joined (u .history) w _) (b .is) ∙ joined-group (u .history) w (b .pending) _ (λ n. x .group) given))
+
+pub step-moves : (u : World) (s : Step) → Consistent u → Move (viewOf u) (s .writer) (viewOf (next u s))
+unfolding next step fed
+step-moves u s h = moves (step-in-range (u .state) s (h .ranged))
+  where
+    moves : inRange (step (u .state) s .state) ≡ true → Move (viewOf u) (s .writer) (viewOf (answeredBy u s (step (u .state) s)))
+    moves =
+        simp (cond-iff (λ (r : Answered). inRange (r .state) ≡ true → Move (viewOf u) (s .writer) (viewOf (answeredBy u s r))), facts) (
+          λ _ _. stays refl,
+          λ _. (
+            λ _ _. stays refl,
+            λ there. acted-moves u h (s .writer) there (acts (viewOf u .writer (s .writer)) (s .writer) (u .state .shared) (s .action)),
+          ),
+        )
+
+pub step-consistent : (u : World) (s : Step) → Consistent u → Consistent (next u s)
+unfolding next
+step-consistent u s h =
+    record {
+      sized = step-sized (u .state) s (h .sized);
+      ranged = step-in-range (u .state) s (h .ranged);
+      invariant = move-keeps (viewOf u) (viewOf (next u s)) (s .writer) (h .invariant) (step-moves u s h) .invariant;
+    }

@@ -1,0 +1,57 @@
+-- Demand 3, stated. The proof is in proofs/.
+use Prim.Native.Nat.{ℕ, _*_, _≤_, _<_}
+use mathlib.Core.Path.{_≡_}
+use mathlib.Core.List.{List, [], _∷_, _++_, List·Memᴰ}
+use mathlib.Core.Option.{some}
+use lib.ListN.{length}
+use Rattle.model.specs.Limits.{keys}
+use Rattle.model.specs.State.{State, fresh, cell}
+use Rattle.model.specs.Rules.{Answered, step}
+use Rattle.model.specs.Snapshot.{scan, listed, instantAt}
+use Rattle.model.specs.History.{Pending, Committed, History, empty, fed, listing}
+use Rattle.model.specs.declared.InstantState.{InstantState}
+use Rattle.model.specs.declared.InstantState.the-variants.{Refused, None, Requested, Inflight, Completed}
+use Rattle.model.specs.declared.Step.{Step}
+
+-- the file group that the instant call gives
+abbrev pub groupGiven : InstantState → ℕ
+groupGiven (Refused n) = 0
+groupGiven None = 0
+groupGiven Requested = 0
+groupGiven (Inflight g) = g
+groupGiven (Completed g) = g
+
+-- a table and its history
+pub record World : Type 0 where
+  pub state : State
+  pub history : History
+
+-- the table's answer to a step, and the history fed with it
+unfoldable pub next : World → Step → World
+next u s =
+    let r : Answered = step (u .state) s in
+    record { state = r .state; history = fed (u .history) s (r .answer) (λ n. groupGiven (instantAt (r .state) n)) }
+
+-- "Each step gets the table that the last one returned, and nobody else writes it."
+unfoldable pub along : World → List Step → World
+along u [] = u
+along u (s ∷ ss) = along (next u s) ss
+
+-- "any list of steps, refused ones included, from a fresh table"
+abbrev pub after : List Step → World
+after ss = along (record { state = fresh; history = empty }) ss
+
+-- demand 3, after a list of steps
+pub record Isolated (ss : List Step) : Type 0 where
+  -- "a scan at any timestamp, given room, lists exactly the keys whose newest committed operation at or before it is a put":
+  -- it answers 0, counts these rows and stores them, and leaves what stands behind them
+  pub lists : (t : ℕ) (buffer : List ℕ) → 3 * length (listing (after ss .history) t) ≤ length buffer
+      → scan (after ss .state) t buffer ≡ listed (listing (after ss .history) t) buffer
+  -- "No key ever stands in the committed slices of two file groups."
+  pub apart : (c d : Committed) → List·Memᴰ c (after ss .history .done) → List·Memᴰ d (after ss .history .done) → (k u v : ℕ) → k < keys
+      → cell (after ss .state .shared) (c .ts) k ≡ some u → cell (after ss .state .shared) (d .ts) k ≡ some v → c .group ≡ d .group
+  -- "If the timestamp has been issued and no operation in progress holds it or an earlier one, that listing stays the same whatever steps follow."
+  pub stays : (t : ℕ) → 1 ≤ t → t ≤ after ss .history .last
+      → ((w : ℕ) (p : Pending) → after ss .history .pending w ≡ some p → t < p .ts)
+      → (more : List Step) (buffer : List ℕ) → 3 * length (listing (after ss .history) t) ≤ length buffer
+      → scan (after (ss ++ more) .state) t buffer ≡ listed (listing (after ss .history) t) buffer

@@ -1,0 +1,10 @@
+pub mod Limits
+pub mod Answers
+pub mod Counting
+pub mod State
+pub mod Range
+pub mod Rules
+pub mod Snapshot
+pub mod Calls
+pub mod History
+pub mod Isolation

@@ -1,0 +1,45 @@
+-- Answer 17, document 01, "Answer numbers": "17 means only that some stored number lies outside its range above, a phase outside 0 to 6,
+-- a timestamp (a kept instant's too) or base above the last issued, or a timestamp of 0 for a writer off phase 0."
+use Prim.Native.Nat.{ℕ}
+use mathlib.Core.Bool.{Bool, _||_}
+use mathlib.Core.List.{List, [], _∷_}
+use lib.ListN.{getD}
+use lib.Dec.{eqb, ltb, leb}
+use Rattle.model.specs.Limits.{writers, keys, groups, timestamps}
+use Rattle.model.specs.Counting.{every, eachBelow}
+use Rattle.model.specs.State.{State, ready, completed}
+use Rattle.model.specs.declared.Writer.{Writer}
+
+-- a writer's numbers, where `last` is the last timestamp issued
+abbrev pub writerTests : ℕ → Writer → List Bool
+writerTests last x =
+    ltb (x .key) keys ∷ ltb (x .group) groups ∷ leb (x .phase) 6 ∷ leb (x .ts) last ∷ leb (x .base) last ∷ (eqb (x .phase) 0 || ltb 0 (x .ts)) ∷ []
+
+abbrev pub writerInRange : ℕ → Writer → Bool
+writerInRange last x = every (writerTests last x)
+
+unfoldable pub writersInRange : ℕ → List Writer → Bool
+writersInRange last xs = eachBelow writers (λ w. writerInRange last (getD xs w ready))
+
+-- an index entry: 0, or a file group + 1
+unfoldable pub indexInRange : List ℕ → Bool
+indexInRange index = eachBelow keys (λ k. leb (getD index k 0) groups)
+
+-- an instant's file group
+unfoldable pub instantsInRange : List ℕ → Bool
+instantsInRange timeline = eachBelow timestamps (λ i. ltb (getD timeline i 0) (completed groups))
+
+-- no instant is kept above the last timestamp issued
+unfoldable pub noneAbove : ℕ → List ℕ → Bool
+noneAbove last timeline = eachBelow timestamps (λ i. ltb i last || eqb (getD timeline i 0) 0)
+
+unfoldable pub inRange : State → Bool
+inRange st =
+    every
+    (leb (st .shared .last) timestamps
+    ∷ leb (st .shared .lock) writers
+    ∷ writersInRange (st .shared .last) (st .writers)
+    ∷ indexInRange (st .shared .index)
+    ∷ instantsInRange (st .shared .timeline)
+    ∷ noneAbove (st .shared .last) (st .shared .timeline)
+    ∷ [])

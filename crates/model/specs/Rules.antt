@@ -1,0 +1,164 @@
+-- The rules of a step, document 01, "A writer's walk": what each action makes of the writer's own record and of what all writers share.
+-- The walk is the commit protocol of an operation.
+use Prim.Native.Nat.{ℕ, zero, suc, _+_, _-_}
+use mathlib.Core.Bool.{Bool, true, false, cond, not, _&&_}
+use mathlib.Core.List.{List}
+use lib.ListN.{getD, set}
+use lib.Dec.{eqb, ltb, leb}
+use Rattle.model.specs.Limits.{writers, keys, groups, timestamps}
+use Rattle.model.specs.Answers.{taken, committed, notIndexed, tooLate, otherGroup, groupChanged, aborted, noWriter, noKey, noGroup, wrongPhase, noTimestamp, locked, outOfRange}
+use Rattle.model.specs.State.{Shared, State, shared, requested, inflight, completed, newest, rowAt, ready}
+use Rattle.model.specs.Range.{inRange}
+use Rattle.model.specs.declared.Writer.{Writer}
+use Rattle.model.specs.declared.Operation.{Operation}
+use Rattle.model.specs.declared.Operation.the-variants.{Put, Remove}
+use Rattle.model.specs.declared.Action.{Action}
+use Rattle.model.specs.declared.Action.the-variants.{Start, LookUp, Read, Write, Index, Check, Commit, Abort}
+use Rattle.model.specs.declared.Step.{Step}
+
+-- the answer to an action, with the writer and the shared part after it
+pub record Outcome : Type 0 where
+  pub answer : ℕ
+  pub writer : Writer
+  pub shared : Shared
+
+abbrev pub outcome : ℕ → Writer → Shared → Outcome
+outcome n x s = record { answer = n; writer = x; shared = s }
+
+-- the parts of the shared state that an action changes
+abbrev pub withLock : Shared → ℕ → Shared
+withLock s l = shared (s .last) l (s .index) (s .timeline) (s .present) (s .values)
+
+abbrev pub withIndex : Shared → List ℕ → Shared
+withIndex s i = shared (s .last) (s .lock) i (s .timeline) (s .present) (s .values)
+
+abbrev pub withInstant : Shared → ℕ → ℕ → Shared
+withInstant s n i = shared (s .last) (s .lock) (s .index) (set (s .timeline) (n - 1) i) (s .present) (s .values)
+
+-- the next timestamp issued, its instant requested
+abbrev pub issued : Shared → Shared
+issued s = shared (s .last + 1) (s .lock) (s .index) (set (s .timeline) (s .last) requested) (s .present) (s .values)
+
+-- the first k rows of the slice of timestamp n, taken over from the slice of b; none for b = 0
+unfoldable pub copied : {A : Type 0} → A → List A → ℕ → ℕ → ℕ → List A
+copied absent rows b n zero = rows
+copied absent rows b n (suc k) = set (copied absent rows b n k) (rowAt n k) (cond (eqb b 0) absent (getD rows (rowAt b k) absent))
+
+-- the slice of timestamp n stored: the rows of the slice of b, with v at key k
+unfoldable pub sliced : {A : Type 0} → A → List A → ℕ → ℕ → ℕ → A → List A
+sliced absent rows b n k v = set (copied absent rows b n keys) (rowAt n k) v
+
+-- the slice of a writer's operation stored
+abbrev pub withSlice : Shared → Writer → Shared
+withSlice s x =
+    shared (s .last) (s .lock) (s .index) (s .timeline)
+    (sliced false (s .present) (x .base) (x .ts) (x .key) (x .put))
+    (sliced 0 (s .values) (x .base) (x .ts) (x .key) (x .value))
+
+-- an operation's key, and the file group that a put proposes
+abbrev pub keyOf : Operation → ℕ
+keyOf (Put k v g) = k
+keyOf (Remove k) = k
+
+abbrev pub groupOf : Operation → ℕ
+groupOf (Put k v g) = g
+groupOf (Remove k) = 0
+
+-- a writer that has started an operation under timestamp n
+abbrev pub begun : Operation → ℕ → Writer
+begun (Put k v g) n = record { phase = 1; put = true; key = k; group = g; ts = n; base = 0; value = v }
+begun (Remove k) n = record { phase = 1; put = false; key = k; group = 0; ts = n; base = 0; value = 0 }
+
+-- a writer at its next phase, with a file group and a base
+abbrev pub moved : Writer → ℕ → ℕ → ℕ → Writer
+moved x p g b = record { phase = p; put = x .put; key = x .key; group = g; ts = x .ts; base = b; value = x .value }
+
+-- "Whoever ends or commits frees the lock if holding it, goes to phase 0, and keeps no operation, timestamp or base (all 0)."
+abbrev pub ended : ℕ → ℕ → Shared → Outcome
+ended n w s = outcome n ready (withLock s (cond (eqb (s .lock) (w + 1)) 0 (s .lock)))
+
+-- 1. "Start (phase 0): the next timestamp, last issued plus 1, is given to it; the instant is requested. Phase 1."
+unfoldable pub start : Writer → Shared → Operation → Outcome
+start x s op =
+    cond (leb keys (keyOf op)) (outcome noKey x s)
+    (cond (leb groups (groupOf op)) (outcome noGroup x s)
+    (cond (not (eqb (x .phase) 0)) (outcome wrongPhase x s)
+    (cond (leb timestamps (s .last)) (outcome noTimestamp x s) (outcome taken (begun op (s .last + 1)) (issued s)))))
+
+-- 2. "Look up (1): an indexed key gives its group. An unindexed put takes its proposed group. An unindexed remove ends with 2. Else phase 2."
+unfoldable pub lookUp : Writer → ℕ → Shared → Outcome
+lookUp x w s =
+    cond (not (eqb (x .phase) 1)) (outcome wrongPhase x s)
+    (cond (not (eqb (getD (s .index) (x .key) 0) 0)) (outcome taken (moved x 2 (getD (s .index) (x .key) 0 - 1) (x .base)) s)
+    (cond (x .put) (outcome taken (moved x 2 (x .group) (x .base)) s) (ended notIndexed w s)))
+
+-- 3. "Read (2): if a completed instant of this group has a timestamp above the writer's own, it ends with 3 and the instant stays requested.
+-- Else the base is the largest completed timestamp of the group, or 0; the instant becomes inflight. Phase 3."
+unfoldable pub readBase : Writer → ℕ → Shared → Outcome
+readBase x w s =
+    cond (not (eqb (x .phase) 2)) (outcome wrongPhase x s)
+    (cond (ltb (x .ts) (newest (s .timeline) (x .group) (s .last))) (ended tooLate w s)
+    (outcome taken (moved x 3 (x .group) (newest (s .timeline) (x .group) (s .last))) (withInstant s (x .ts) (inflight (x .group)))))
+
+-- 4. "Write (3): a slice for this group and timestamp is stored: the base slice's rows (none for base 0) with the one key put or removed. Phase 4."
+unfoldable pub writeSlice : Writer → Shared → Outcome
+writeSlice x s = cond (not (eqb (x .phase) 3)) (outcome wrongPhase x s) (outcome taken (moved x 4 (x .group) (x .base)) (withSlice s x))
+
+-- a lock or an index entry, which is 0 for none and m + 1 for m, names another than n
+abbrev pub namesOther : ℕ → ℕ → Bool
+namesOther e n = not (eqb e 0) && not (eqb e (n + 1))
+
+-- 5. "Index (4): takes the table lock. If the key is indexed to another group, the writer ends with 4. Else a put enters key and group. Phase 5, lock held."
+unfoldable pub enterIndex : Writer → ℕ → Shared → Outcome
+enterIndex x w s =
+    cond (not (eqb (x .phase) 4)) (outcome wrongPhase x s)
+    (cond (namesOther (s .lock) w) (outcome locked x s)
+    (cond (namesOther (getD (s .index) (x .key) 0) (x .group)) (ended otherGroup w s)
+    (outcome taken (moved x 5 (x .group) (x .base))
+    (withLock (withIndex s (cond (x .put) (set (s .index) (x .key) (x .group + 1)) (s .index))) (w + 1)))))
+
+-- 6. "Check (5): ends with 5 exactly if some completed instant of the same group has a timestamp above the base. Else phase 6."
+unfoldable pub checkConflict : Writer → ℕ → Shared → Outcome
+checkConflict x w s =
+    cond (not (eqb (x .phase) 5)) (outcome wrongPhase x s)
+    (cond (ltb (x .base) (newest (s .timeline) (x .group) (s .last))) (ended groupChanged w s)
+    (outcome taken (moved x 6 (x .group) (x .base)) s))
+
+-- 7. "Commit (6): the instant becomes completed, phase 0, answer 1."
+unfoldable pub commit : Writer → ℕ → Shared → Outcome
+commit x w s =
+    cond (not (eqb (x .phase) 6)) (outcome wrongPhase x s) (ended committed w (withInstant s (x .ts) (completed (x .group))))
+
+-- 8. "Give up (1 to 6): answer 6."
+unfoldable pub abort : Writer → ℕ → Shared → Outcome
+abort x w s = cond (eqb (x .phase) 0) (outcome wrongPhase x s) (ended aborted w s)
+
+-- the action of writer w, whose own record is x
+unfoldable pub act : Writer → ℕ → Shared → Action → Outcome
+act x w s (Start op) = start x s op
+act x w s LookUp = lookUp x w s
+act x w s Read = readBase x w s
+act x w s Write = writeSlice x s
+act x w s Index = enterIndex x w s
+act x w s Check = checkConflict x w s
+act x w s Commit = commit x w s
+act x w s Abort = abort x w s
+
+-- an answer, and the state after it
+pub record Answered : Type 0 where
+  pub answer : ℕ
+  pub state : State
+
+abbrev pub answered : ℕ → State → Answered
+answered n st = record { answer = n; state = st }
+
+-- the outcome of writer w's action in the whole state
+abbrev pub updated : State → ℕ → Outcome → Answered
+updated st w o = answered (o .answer) (record { shared = o .shared; writers = set (st .writers) w (o .writer) })
+
+-- one step: "Tested in the order 17, 10, 12, 13, 14, 15, 16; the first that applies is given"
+unfoldable pub step : State → Step → Answered
+step st s =
+    cond (not (inRange st)) (answered outOfRange st)
+    (cond (leb writers (s .writer)) (answered noWriter st)
+    (updated st (s .writer) (act (getD (st .writers) (s .writer) ready) (s .writer) (st .shared) (s .action))))

@@ -1,0 +1,30 @@
+// Document 01's answer numbers; specs/Answers.antt has the same.
+pub const TAKEN: u8 = 0;
+
+pub const COMMITTED: u8 = 1;
+
+pub const NOT_INDEXED: u8 = 2;
+
+pub const TOO_LATE: u8 = 3;
+
+pub const OTHER_GROUP: u8 = 4;
+
+pub const GROUP_CHANGED: u8 = 5;
+
+pub const ABORTED: u8 = 6;
+
+pub const NO_WRITER: u8 = 10;
+
+pub const NO_KEY: u8 = 12;
+
+pub const NO_GROUP: u8 = 13;
+
+pub const WRONG_PHASE: u8 = 14;
+
+pub const NO_TIMESTAMP: u8 = 15;
+
+pub const LOCKED: u8 = 16;
+
+pub const OUT_OF_RANGE: u8 = 17;
+
+pub const NO_ROOM: u8 = 31;

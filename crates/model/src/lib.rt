@@ -1,0 +1,94 @@
+// The types of a table, of its steps and of its reads. specs/ gives their meaning.
+pub mod answers;
+pub mod instants;
+pub mod limits;
+
+use limits::KEYS;
+use limits::TIMESTAMPS;
+use limits::WRITERS;
+
+// A number of a step, and what a key holds: any number of a log.
+pub type Word = u32;
+
+pub type Value = Word;
+
+// A writer, with its operation in progress. A ready writer is at phase 0 and keeps zeros.
+pub struct Writer {
+    pub phase: u8,
+    pub put: bool,
+    pub key: u8,
+    pub group: u8,
+    pub ts: u8,
+    pub base: u8,
+    pub value: Value,
+}
+
+// The metadata of a table. Its rows are two arrays that stand beside it.
+pub struct Table {
+    // The last timestamp issued.
+    pub last: u8,
+    // 0: free; w + 1: held by writer w.
+    pub lock: u8,
+    pub writers: [Writer; WRITERS],
+    // Of each key: 0, or its file group + 1.
+    pub index: [u8; KEYS],
+    // The instant of timestamp n, at n - 1, as the module instants codes it.
+    pub timeline: [u8; TIMESTAMPS],
+}
+
+// What a start carries.
+pub enum Operation {
+    Put {
+        key: Word,
+        value: Value,
+        group: Word,
+    },
+    Remove {
+        key: Word,
+    },
+}
+
+// What a writer does. Abort is document 01's give up.
+pub enum Action {
+    Start(Operation),
+    LookUp,
+    Read,
+    Write,
+    Index,
+    Check,
+    Commit,
+    Abort,
+}
+
+pub struct Step {
+    pub writer: Word,
+    pub action: Action,
+}
+
+// The answer to a step, and the table after it.
+pub struct Stepped {
+    pub answer: u8,
+    pub table: Table,
+}
+
+// The answer to a scan, and the number of rows stored.
+pub struct Scanned {
+    pub answer: u8,
+    pub count: usize,
+}
+
+// What a point read finds.
+pub enum Found {
+    Refused(u8),
+    Absent,
+    Present { value: Value, group: u8 },
+}
+
+// The state of an instant, with its file group from inflight on.
+pub enum InstantState {
+    Refused(u8),
+    None,
+    Requested,
+    Inflight(u8),
+    Completed(u8),
+}
