@@ -1,6 +1,7 @@
 -- The test of answer 17 as facts about numbers.
---     ranged      a state that passes the test has its numbers in range
---     in-range    and the other way
+--     writer-ranged    a writer that passes the test has its numbers in range
+--     ranged           so has a state
+--     in-range         and the other way
 use Prim.Native.Nat.{ℕ, _<_, _≤_}
 use native.Mathlib.Omega.{arith}
 use mathlib.Core.Bool.{true}
@@ -9,7 +10,7 @@ use mathlib.Core.Path.{_≡_}
 use lib.ListN.{getD}
 use Rattle.model.specs.Limits.{writers, keys, groups, timestamps}
 use Rattle.model.specs.State.{Shared, State, completed, ready}
-use Rattle.model.specs.Range.{writersInRange, indexInRange, instantsInRange, noneAbove, inRange}
+use Rattle.model.specs.Range.{writerInRange, writersInRange, indexInRange, instantsInRange, noneAbove, inRange}
 use Rattle.model.specs.declared.Writer.{Writer}
 use Rattle.model.proofs.EachBelow.{below-iff}
 use Rattle.model.proofs.Cases.{facts}
@@ -41,6 +42,15 @@ pub record Ranged (st : State) : Type 0 where
   pub shared : SharedRanged (st .shared)
   pub writer : (w : ℕ) → w < writers → WriterRanged (st .shared .last) (getD (st .writers) w ready)
 
+module _ (last : ℕ) where
+  pub writer-ranged : (x : Writer) → writerInRange last x ≡ true → WriterRanged last x
+  writer-ranged x e =
+      let (key, (group, (phase, (ts, (base, issued))))) = simp facts at e in
+      record { key = key; group = group; phase = phase; ts = ts; base = base; issued = λ p. issued (λ z. omega (arith, z)) }
+
+  writer-in-range : (x : Writer) → WriterRanged last x → writerInRange last x ≡ true
+  writer-in-range x r = simp facts (r .key, (r .group, (r .phase, (r .ts, (r .base, λ p. r .issued (omega (arith, p)))))))
+
 module _ (st : State) where
   pub ranged : inRange st ≡ true → Ranged st
   unfolding inRange writersInRange indexInRange instantsInRange noneAbove
@@ -54,10 +64,7 @@ module _ (st : State) where
               entry = entry;
               instant = λ i l. record { coded = coded i l; above = λ a. above i l (omega arith) };
             };
-        writer =
-            λ w l.
-            let (key, (group, (phase, (ts, (base, issued))))) = writer w l in
-            record { key = key; group = group; phase = phase; ts = ts; base = base; issued = λ p. issued (λ z. omega (arith, z)) };
+        writer = λ w l. writer-ranged _ _ (simp facts (writer w l));
       }
 
   pub in-range : Ranged st → inRange st ≡ true
@@ -69,7 +76,7 @@ module _ (st : State) where
         (
           s .lock,
           (
-            λ w l. let x = r .writer w l in (x .key, (x .group, (x .phase, (x .ts, (x .base, λ p. x .issued (omega (arith, p))))))),
+            λ w l. simp facts at (writer-in-range _ _ (r .writer w l)),
             (s .entry, (λ i l. s .instant i l .coded, λ i l a. s .instant i l .above (omega arith))),
           ),
         ),

@@ -1,12 +1,12 @@
 -- Document 01, "Traces to hold it to": the traces marked P, one table of cases and one claim about all of it, proved from the definitions.
-use Prim.Native.Nat.{ℕ, _*_}
+use Prim.Native.Nat.{ℕ}
 use mathlib.Core.Path.{_≡_, refl}
 use mathlib.Core.List.{List, [], _∷_, _++_, map}
 use lib.ListN.{replicate}
 use Rattle.leb128.specs.Coding.{encodedIn, encoded, decodedIn, decodedAt}
 use Rattle.leb128.specs.declared.Decoded.{Decoded}
 use Rattle.leb128.specs.declared.Decoded.the-variants.{Number, Stop}
-use Rattle.model.specs.Counting.{eachBelow, listBelow, upd}
+use Rattle.model.specs.Counting.{eachBelow, listBelow}
 use Rattle.model.specs.Limits.{timestamps}
 use Rattle.model.specs.State.{State, fresh, newest}
 use Rattle.model.specs.Range.{inRange, writersInRange, indexInRange, instantsInRange, noneAbove}

@@ -1,0 +1,5 @@
+pub mod Tests
+pub mod Newest
+pub mod Rows
+pub mod Largest
+pub mod Bounds

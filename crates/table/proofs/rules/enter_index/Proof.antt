@@ -1,0 +1,119 @@
+-- `enter_index` meets its contract: the tests of the rule have the values that the branches show.
+use Prim.Native.Nat.{ℕ, _+_}
+use denote.Ref.{now}
+use mathlib.Core.Bool.{Bool, true, false, cond}
+use mathlib.Core.List.{List}
+use mathlib.Core.Path.{_≡_, refl}
+use lib.ListN.{getD, set}
+use lib.Seq.{set-getD}
+use borrow.Author.Tests.{eq-eqb, ne-eqb}
+use borrow.Author.Needs.{needs}
+use Rattle.model.specs.Rules.{enterIndex}
+use Rattle.table.proofs.rules.enter_index.Statement.{statement}
+use Rattle.table.proofs.rules.enter_index.Tie as tie
+
+-- a remove stores the entry that is there
+entered : (put : Bool) (index : List ℕ) (key entry : ℕ) → set index key (cond put entry (getD index key 0)) ≡ cond put (set index key entry) index
+entered true index key entry = refl
+entered false index key entry = set-getD index key 0
+
+outcome-requires : tie.Need-outcome-requires
+outcome-requires c κs = search needs
+
+returns : tie.Need-returns
+unfolding enterIndex
+returns c = λ t p v. rw (c .outcome .ensures, ne-eqb _ _ (c .before .if1 .taken))
+
+names-other-requires : tie.Need-names-other-requires
+names-other-requires c κs = search needs
+
+outcome-requires-2 : tie.Need-outcome-requires-2
+outcome-requires-2 c κs = search needs
+
+returns-2 : tie.Need-returns-2
+unfolding enterIndex
+returns-2 c =
+    λ t p v.
+    rw (
+      c .outcome2 .ensures,
+      eq-eqb _ _ (c .before .before .before .if1 .left),
+      ← c .before .before .names-other .ensures,
+      c .before .if2 .taken,
+    )
+
+cast-key : tie.Need-cast-key
+cast-key c = search needs
+
+element-copy-out-entry : tie.Need-element-copy-out-entry
+element-copy-out-entry c = search needs
+
+names-other-requires-2 : tie.Need-names-other-requires-2
+names-other-requires-2 c κs = search needs
+
+end-requires : tie.Need-end-requires
+end-requires c κs = search needs
+
+returns-3 : tie.Need-returns-3
+unfolding enterIndex
+returns-3 c =
+    λ t p v.
+    rw (
+      eq-eqb _ _ (c .before .before .before .before .before .before .before .if1 .left),
+      ← c .before .before .before .before .before .before .names-other .ensures,
+      c .before .before .before .before .before .if2 .left,
+      ← c .before .before .names-other2 .ensures,
+      c .before .if3 .taken,
+    ) (c .end .ensures _ t p v)
+
+entry-after-requires : tie.Need-entry-after-requires
+entry-after-requires c κs = search needs
+
+element-write-index : tie.Need-element-write-index
+element-write-index c = search needs
+
+moved-requires : tie.Need-moved-requires
+moved-requires c κs = search needs
+
+add-outcome : tie.Need-add-outcome
+add-outcome c = search needs
+
+outcome-requires-3 : tie.Need-outcome-requires-3
+outcome-requires-3 c κs = search needs
+
+returns-4 : tie.Need-returns-4
+unfolding enterIndex
+returns-4 c =
+    let a = c .before .before .before .before .before .before .before .before .before .before .before .args in
+    λ t p v.
+    rw (
+      c .outcome3 .ensures,
+      c .before .moved .ensures,
+      c .before .before .entry-after .ensures,
+      eq-eqb _ _ (c .before .before .before .before .before .before .before .before .before .if1 .left),
+      ← c .before .before .before .before .before .before .before .before .names-other .ensures,
+      c .before .before .before .before .before .before .before .if2 .left,
+      ← c .before .before .before .before .names-other2 .ensures,
+      c .before .before .before .if3 .left,
+      entered (a .x .put) (now (a .index)) (a .x .key) (a .x .group + 1),
+    )
+
+pub enter-index-spec : {M : Type 1} → statement M
+enter-index-spec =
+    tie.close
+    (tie.spec
+    outcome-requires
+    returns
+    names-other-requires
+    outcome-requires-2
+    returns-2
+    cast-key
+    element-copy-out-entry
+    names-other-requires-2
+    end-requires
+    returns-3
+    entry-after-requires
+    element-write-index
+    moved-requires
+    add-outcome
+    outcome-requires-3
+    returns-4)
