@@ -1,0 +1,105 @@
+-- Lists made by counting (`listBelow`), and loops that fill a list (`Filled`) and sum one up (`Summed`).
+use Prim.Native.Nat.{ℕ, zero, suc, _+_, _-_, _*_, _<_, _≤_}
+use native.Mathlib.Numerals.{add-one}
+use native.Mathlib.Omega.{arith}
+use mathlib.Core.Path.{_≡_, refl, sym, _∙_, ap}
+use mathlib.Core.List.{List, [], _∷_, _++_, append-nil, append-assoc}
+use lib.ListN.{getD, set, length, length-set, length-append}
+use lib.Seq.{getD-set-same, getD-set-other}
+use borrow.Author.Count.{below-more}
+use Rattle.model.specs.Counting.{listBelow}
+use Rattle.snapshot.specs.Rows.{sum}
+
+pub no-length : {A : Type 0} (l : List A) → length l ≡ 0 → l ≡ []
+no-length [] e = refl
+no-length (x ∷ xs) e = absurd (omega arith)
+
+module _ {A : Type 0} where
+  pub list-cong : (n : ℕ) (f g : ℕ → List A) → ((i : ℕ) → i < n → f i ≡ g i) → listBelow n f ≡ listBelow n g
+  unfolding listBelow
+  list-cong zero f g h = refl
+  list-cong (suc n) f g h = rw (list-cong n f g (λ i l. h i (omega arith)), h n (omega arith))
+
+  pub list-none : (n : ℕ) (f : ℕ → List A) → ((i : ℕ) → i < n → f i ≡ []) → listBelow n f ≡ []
+  unfolding listBelow
+  list-none zero f h = refl
+  list-none (suc n) f h = rw (list-none n f (λ i l. h i (omega arith)), h n (omega arith))
+
+  pub list-more : (n : ℕ) (f : ℕ → List A) → listBelow (n + 1) f ≡ listBelow n f ++ f n
+  unfolding listBelow
+  list-more n f = rw add-one
+
+  pub length-more : (n : ℕ) (f : ℕ → List A) → length (listBelow (n + 1) f) ≡ length (listBelow n f) + length (f n)
+  length-more n f = ap length (list-more n f) ∙ length-append (listBelow n f) (f n)
+
+  -- the part below n, and what comes behind
+  list-split : (m n : ℕ) (f : ℕ → List A) → listBelow (n + m) f ≡ listBelow n f ++ listBelow m (λ i. f (n + i))
+  unfolding listBelow
+  list-split zero n f = let e : n + 0 ≡ n = omega arith in rw e (sym (append-nil (listBelow n f)))
+  list-split (suc m) n f =
+      let e : n + suc m ≡ suc (n + m) = omega arith in
+      rw (e, list-split m n f) (append-assoc (listBelow n f) (listBelow m (λ i. f (n + i))) (f (n + m)))
+
+  module _ (n all : ℕ) (f : ℕ → List A) (h : n ≤ all) where
+    abbrev rest : List A
+    rest = listBelow (all - n) (λ i. f (n + i))
+
+    pub list-rest : listBelow all f ≡ listBelow n f ++ rest
+    list-rest = let e : n + (all - n) ≡ all = omega arith in rw e at (list-split (all - n) n f)
+
+    pub list-whole : length (listBelow n f) ≡ length (listBelow all f) → listBelow n f ≡ listBelow all f
+    list-whole e =
+        let l = ap length list-rest ∙ length-append (listBelow n f) rest in
+        sym (list-rest ∙ rw (no-length rest (omega arith)) (append-nil (listBelow n f)))
+
+  pub length-most : (n : ℕ) (f : ℕ → List A) → ((i : ℕ) → length (f i) ≤ 1) → length (listBelow n f) ≤ n
+  unfolding listBelow
+  length-most zero f h = omega arith
+  length-most (suc n) f h = omega (arith, length-append (listBelow n f) (f n), length-most n f h, h n)
+
+  pub sum-length : (n : ℕ) (f : ℕ → List A) (c : ℕ → ℕ) → ((i : ℕ) → i < n → c i ≡ length (f i)) → sum n c ≡ length (listBelow n f)
+  unfolding listBelow sum
+  sum-length zero f c h = refl
+  sum-length (suc n) f c h =
+      rw (sum-length n f c (λ i l. h i (omega arith)), h n (omega arith)) (sym (length-append (listBelow n f) (f n)))
+
+-- a loop that fills a list of n numbers: each below i is what f says
+pub record Filled (f : ℕ → ℕ) (n : ℕ) (xs : List ℕ) (i : ℕ) : Type 0 where
+  pub low : i ≤ n
+  pub size : length xs ≡ n
+  pub at : (j : ℕ) → j < i → getD xs j 0 ≡ f j
+
+pub fill-none : {f : ℕ → ℕ} {n : ℕ} {xs : List ℕ} → length xs ≡ n → Filled f n xs 0
+fill-none e = record { low = omega arith; size = e; at = λ j l. absurd (omega arith) }
+
+module _ {f : ℕ → ℕ} {n : ℕ} {xs : List ℕ} {i : ℕ} (h : Filled f n xs i) where
+  pub fill-next : (v : ℕ) → i < n → v ≡ f i → Filled f n (set xs i v) (i + 1)
+  fill-next v l e =
+      record {
+        low = omega arith;
+        size = length-set xs i v ∙ h .size;
+        at =
+            below-more _ _ (λ j m. getD-set-other xs i j v 0 (λ q. omega arith) ∙ h .at j m)
+            (getD-set-same xs i v 0 (omega (arith, h .size)) ∙ e);
+      }
+
+  pub fill-end : n ≤ i → (j : ℕ) → j < n → getD xs j 0 ≡ f j
+  fill-end l j m = h .at j (omega arith)
+
+-- a loop that sums up the numbers f 0, f 1, .., each at most m: those below i
+pub record Summed (f : ℕ → ℕ) (m n total i : ℕ) : Type 0 where
+  pub low : i ≤ n
+  pub small : total ≤ m * i
+  pub is : total ≡ sum i f
+
+pub sum-none : {f : ℕ → ℕ} {m n : ℕ} → Summed f m n 0 0
+unfolding sum
+sum-none = record { low = omega arith; small = omega arith; is = refl }
+
+module _ {f : ℕ → ℕ} {m n total i : ℕ} (h : Summed f m n total i) where
+  pub sum-next : i < n → f i ≤ m → Summed f m n (total + f i) (i + 1)
+  unfolding sum
+  sum-next l s = record { low = omega arith; small = omega (arith, h .small); is = rw (add-one, h .is) }
+
+  pub sum-end : n ≤ i → (total ≡ sum n f) × (total ≤ m * n)
+  sum-end l = let e : i ≡ n = omega (arith, h .low) in (rw e at (h .is), rw e at (h .small))

@@ -1,0 +1,81 @@
+-- `first_row` meets its contract. The loop's invariant is `Searched` of proofs/FirstRow. The measure is the number of groups left.
+use Prim.Native.Nat.{_-_}
+use native.Mathlib.Omega.{arith}
+use borrow.Author.Needs.{needs}
+use Rattle.model.specs.Limits.{groups}
+use Rattle.snapshot.proofs.FirstRow.{Searched, search-none, search-hit, search-miss, search-end}
+use Rattle.snapshot.proofs.rows.first_row.Statement.{statement}
+use Rattle.snapshot.proofs.rows.first_row.Tie as tie
+
+abbrev Inv-loop : tie.InvT-loop
+Inv-loop present values key slices group₀ group = Searched slices present values key group
+
+abbrev μ-loop : tie.MeasureT-loop
+μ-loop present values key slices group₀ group = groups - group
+
+loop-holds : tie.Need-loop-holds Inv-loop μ-loop
+loop-holds c = search-none
+
+array-read-slice : tie.Need-array-read-slice Inv-loop μ-loop
+array-read-slice c = search needs
+
+has-row-requires : tie.Need-has-row-requires Inv-loop μ-loop
+has-row-requires c κs = (c .before .before .pre .0 (c .before .loop .group) (c .loop-test .taken), c .before .before .pre .1)
+
+row-at-requires : tie.Need-row-at-requires Inv-loop μ-loop
+row-at-requires c κs = (
+  (
+    c .before .has-row .ensures .slice (c .if1 .taken),
+    c .before .before .before .before .pre .0 (c .before .before .before .loop .group) (c .before .before .loop-test .taken),
+  ),
+  c .before .before .before .before .pre .1,
+)
+
+mul-t14 : tie.Need-mul-t14 Inv-loop μ-loop
+mul-t14 c = search needs
+
+element-copy-out-t17 : tie.Need-element-copy-out-t17 Inv-loop μ-loop
+element-copy-out-t17 c = search needs
+
+cast-t18 : tie.Need-cast-t18 Inv-loop μ-loop
+cast-t18 c = search needs
+
+returns : tie.Need-returns Inv-loop μ-loop
+returns c =
+    search-hit
+    (c .before .before .before .before .before .loop .inv)
+    (c .before .before .before .before .loop-test .taken)
+    (c .before .before .before .has-row .ensures)
+    (c .before .before .if1 .taken)
+    (c .before .row-at .ensures .0)
+
+add-group : tie.Need-add-group Inv-loop μ-loop
+add-group c = search needs
+
+loop-less : tie.Need-loop-less Inv-loop μ-loop
+loop-less c = search needs
+
+loop-again : tie.Need-loop-again Inv-loop μ-loop
+loop-again c = search-miss (c .before .before .before .loop .inv) (c .before .before .loop-test .taken) (c .before .has-row .ensures) (c .if1 .left)
+
+returns-2 : tie.Need-returns-2 Inv-loop μ-loop
+returns-2 c = search-end (c .before .loop .inv) (omega arith)
+
+pub first-row-spec : {M : Type 1} → statement M
+first-row-spec =
+    tie.close
+    (tie.spec
+    Inv-loop
+    μ-loop
+    loop-holds
+    array-read-slice
+    has-row-requires
+    row-at-requires
+    mul-t14
+    element-copy-out-t17
+    cast-t18
+    returns
+    add-group
+    loop-less
+    loop-again
+    returns-2)

@@ -1,0 +1,119 @@
+// Reading a table at a timestamp.
+mod newest;
+mod rows;
+
+ghost use mathlib.Core.Path.{_≡_};
+ghost use mathlib.Core.Bool.{Bool};
+ghost use mathlib.Core.List.{List};
+ghost use Prim.Native.Nat.{ℕ};
+ghost use Rattle.model.specs.State.{stateOf};
+ghost use Rattle.model.specs.Snapshot.{scan, pointRead, instantOf, instantState, instantAt};
+ghost use Rattle.model.specs.Calls.{stateBefore, scanned};
+use model::Found;
+use model::InstantState;
+use model::Scanned;
+use model::Table;
+use model::Value;
+use model::Word;
+use model::answers::NO_KEY;
+use model::answers::NO_ROOM;
+use model::answers::OUT_OF_RANGE;
+use model::answers::TAKEN;
+use model::instants::COMPLETED;
+use model::instants::INFLIGHT;
+use model::instants::NONE;
+use model::instants::REQUESTED;
+use model::limits::KEYS;
+use model::limits::ROWS;
+use model::limits::TIMESTAMPS;
+use table::in_range;
+
+// The rows at a timestamp, three numbers each, into a lent buffer.
+pub fn scan(
+    t: Table,
+    present: &[bool; ROWS],
+    values: &[Value; ROWS],
+    at: u64,
+    buffer: &mut [Value],
+) -> Scanned
+    ensures { λ r. ⌜ scanned r buffer ≡ scan (stateBefore t present values) at (now (buffer .entry)) ⌝ }
+{
+    if !in_range(t) {
+        return Scanned {
+            answer: OUT_OF_RANGE,
+            count: 0,
+        };
+    }
+    let timeline = t.timeline;
+    let slices = newest::newest_of_groups(timeline, at);
+    let shown = rows::count_slices(slices, present);
+    let counts = shown.counts;
+    let count = rows::total(counts);
+    if buffer.len() < 3 * count {
+        return Scanned {
+            answer: NO_ROOM,
+            count: 0,
+        };
+    }
+    rows::store(slices, present, values, shown, buffer);
+    Scanned {
+        answer: TAKEN,
+        count,
+    }
+}
+
+// The row of a key at a timestamp.
+pub fn read(t: Table, present: &[bool; ROWS], values: &[Value; ROWS], at: u64, key: Word) -> Found
+    ensures { λ r. ⌜ r ≡ pointRead (stateBefore t present values) at key ⌝ }
+{
+    if !in_range(t) {
+        return Found::Refused(OUT_OF_RANGE);
+    }
+    if key >= KEYS as Word {
+        return Found::Refused(NO_KEY);
+    }
+    let timeline = t.timeline;
+    let slices = newest::newest_of_groups(timeline, at);
+    rows::first_row(slices, present, values, key as usize)
+}
+
+// The instant of a timestamp, or none.
+fn instant_of(timeline: [u8; TIMESTAMPS], at: u64) -> u8
+    ensures { λ r. ⌜ r ≡ instantOf timeline at ⌝ }
+{
+    if at == 0 {
+        return NONE;
+    }
+    if at > TIMESTAMPS as u64 {
+        return NONE;
+    }
+    let slot = (at - 1) as usize;
+    timeline[slot]
+}
+
+// What an instant's number means.
+fn state_of(instant: u8) -> InstantState
+    ensures { λ r. ⌜ r ≡ instantState instant ⌝ }
+{
+    if instant == NONE {
+        return InstantState::None;
+    }
+    if instant == REQUESTED {
+        return InstantState::Requested;
+    }
+    if instant < COMPLETED {
+        return InstantState::Inflight(instant - INFLIGHT);
+    }
+    InstantState::Completed(instant - COMPLETED)
+}
+
+// The state of the instant of a timestamp (document 01's third call).
+pub fn instant(t: Table, at: u64) -> InstantState
+    ensures { λ r. ⌜ ((present : List Bool) (values : List ℕ) → r ≡ instantAt (stateOf t present values) at) ⌝ }
+{
+    if !in_range(t) {
+        return InstantState::Refused(OUT_OF_RANGE);
+    }
+    let timeline = t.timeline;
+    state_of(instant_of(timeline, at))
+}
