@@ -15,16 +15,6 @@ no-length [] e = refl
 no-length (x ∷ xs) e = absurd (omega arith)
 
 module _ {A : Type 0} where
-  pub list-cong : (n : ℕ) (f g : ℕ → List A) → ((i : ℕ) → i < n → f i ≡ g i) → listBelow n f ≡ listBelow n g
-  unfolding listBelow
-  list-cong zero f g h = refl
-  list-cong (suc n) f g h = rw (list-cong n f g (λ i l. h i (omega arith)), h n (omega arith))
-
-  pub list-none : (n : ℕ) (f : ℕ → List A) → ((i : ℕ) → i < n → f i ≡ []) → listBelow n f ≡ []
-  unfolding listBelow
-  list-none zero f h = refl
-  list-none (suc n) f h = rw (list-none n f (λ i l. h i (omega arith)), h n (omega arith))
-
   pub list-more : (n : ℕ) (f : ℕ → List A) → listBelow (n + 1) f ≡ listBelow n f ++ f n
   unfolding listBelow
   list-more n f = rw add-one

@@ -15,11 +15,11 @@ use Rattle.model.specs.State.{Shared, State, cell}
 use Rattle.model.specs.Range.{inRange}
 use Rattle.model.specs.Snapshot.{rowIf, rowsOf, rowsAt, Listed, unlisted, listed, scan, firstOf, pointRead}
 use Rattle.model.specs.declared.Found.the-variants.{Refused}
+use Rattle.model.proofs.ListBelow.{same-below}
 use Rattle.model.proofs.RangeKept.{ranged}
 use Rattle.snapshot.specs.declared.rows.Shown.{Shown}
 use Rattle.snapshot.specs.Newest.{Coded, NewestSlices}
 use Rattle.snapshot.specs.Rows.{rowsOnly, rowsOfKey, allRows, Counted, sum}
-use Rattle.snapshot.proofs.Lists.{list-cong}
 use Rattle.snapshot.proofs.Counting.{counted-all}
 
 pub in-range-coded : (st : State) → inRange st ≡ true → Coded (st .shared .timeline)
@@ -51,11 +51,11 @@ module _ (st : State) (t : ℕ) {slices : List ℕ} (h : NewestSlices (st .share
 
   key-same : (k : ℕ) → rowsOfKey slices present values k ≡ rowsOf (st .shared) t k
   key-same k =
-      list-cong groups _ _ (λ g l. ap (rowIf k g) (cell-same (st .shared) (getD slices g 0) k ∙ ap (λ n. cell (st .shared) n k) (h .is g l)))
+      same-below groups _ _ (λ g l. ap (rowIf k g) (cell-same (st .shared) (getD slices g 0) k ∙ ap (λ n. cell (st .shared) n k) (h .is g l)))
 
   all-same : allRows slices present values ≡ rowsAt (st .shared) t
   unfolding rowsAt
-  all-same = list-cong keys _ _ (λ k l. key-same k)
+  all-same = same-below keys _ _ (λ k l. key-same k)
 
   pub read-found : inRange st ≡ true → (k : ℕ) → k < keys → firstOf (rowsOfKey slices present values k) ≡ pointRead st t k
   unfolding pointRead

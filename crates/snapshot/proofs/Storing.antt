@@ -16,9 +16,10 @@ use Rattle.model.specs.Limits.{keys, groups}
 use Rattle.model.specs.Counting.{listBelow}
 use Rattle.model.specs.State.{rowAt}
 use Rattle.model.specs.Snapshot.{Row, row, numbers, listed}
+use Rattle.model.proofs.ListBelow.{none-below}
 use Rattle.snapshot.specs.declared.rows.Shown.{Shown}
 use Rattle.snapshot.specs.Rows.{shownBy, rowsOfKey, HasRow, Stored, KeyFits, AllFit}
-use Rattle.snapshot.proofs.Lists.{list-none, list-more, length-more, list-rest, list-whole}
+use Rattle.snapshot.proofs.Lists.{list-more, length-more, list-rest, list-whole}
 use Rattle.snapshot.proofs.Counting.{shown-row, shown-none}
 
 sets-append : (l : List ℕ) (i : ℕ) (xs ys : List ℕ) → sets l i (xs ++ ys) ≡ sets (sets l i xs) (i + length xs) ys
@@ -84,7 +85,7 @@ pub record StoringKey (slices : List ℕ) (present : List Bool) (values : List �
 pub key-none : {slices values buffer : List ℕ} {present : List Bool} {k count lowest at : ℕ}
     → KeyFits slices present values k count lowest at (length buffer) → StoringKey slices present values k at buffer buffer count at lowest
 key-none {lowest = lowest} h =
-    let z = list-none lowest _ (h .below) in
+    let z = none-below lowest _ (h .below) in
     record {
       storing = record { low = h .small; room = omega (arith, h .all, h .fits); stored = stored-none z };
       rest = omega (arith, ap length z, h .all);

@@ -2,7 +2,7 @@
 --     pass-none, pass-open, pass-old, pass-new, pass-end, pass-full    the laws of `Passed`
 --     newest-min    no timestamp above the timeline's end counts
 --     instant-slot, instant-above    where an instant stands, and that none stands above the end
-use Prim.Native.Nat.{ℕ, zero, suc, _+_, _-_, _<_, _≤_, min, zero-le}
+use Prim.Native.Nat.{ℕ, zero, suc, _+_, _-_, _<_, _≤_, min}
 use native.Mathlib.Nat.{eq-zero-or-pos}
 use native.Mathlib.Decide.{ℕ-discrete, decLe}
 use native.Mathlib.Numerals.{add-one}
@@ -12,10 +12,10 @@ use mathlib.Core.Path.{_≡_, refl, sym, _∙_, ap}
 use mathlib.Core.List.{List, [], _∷_}
 use lib.ListN.{getD, set, length, length-set, replicate, getD-replicate, List·getD-eq-default}
 use lib.Seq.{getD-set-same, getD-set-other}
-use borrow.Author.Tests.{eq-eqb, ne-eqb}
 use Rattle.model.specs.Limits.{groups, timestamps}
 use Rattle.model.specs.State.{newest, completed}
 use Rattle.model.specs.Snapshot.{instantOf}
+use Rattle.model.proofs.CompletedInstants.{newest-hit, newest-miss, newest-of}
 use Rattle.snapshot.specs.Newest.{Coded, NewestSlices}
 
 module _ (timeline : List ℕ) where
@@ -27,22 +27,8 @@ module _ (timeline : List ℕ) where
   instant-above n l = instant-slot n (omega arith) ∙ List·getD-eq-default timeline 0 {n = n - 1} (omega arith)
 
   module _ (g : ℕ) where
-    newest-hit : (n : ℕ) → getD timeline n 0 ≡ completed g → newest timeline g (suc n) ≡ suc n
-    unfolding newest
-    newest-hit n e = rw (eq-eqb _ _ e)
-
-    newest-miss : (n : ℕ) → (getD timeline n 0 ≡ completed g → ⊥) → newest timeline g (suc n) ≡ newest timeline g n
-    unfolding newest
-    newest-miss n d = rw (ne-eqb _ _ d)
-
-    newest-le : (n : ℕ) → newest timeline g n ≤ n
-    unfolding newest
-    newest-le zero = zero-le
-    newest-le (suc n) =
-        by-cases (ℕ-discrete (getD timeline n 0) (completed g)) (λ e. omega (arith, newest-hit n e)) (λ d. omega (arith, newest-miss n d, newest-le n))
-
     above-end : (n : ℕ) → length timeline ≤ n → newest timeline g (suc n) ≡ newest timeline g n
-    above-end n l = let z = List·getD-eq-default timeline 0 {n = n} l in newest-miss n (λ q. omega arith)
+    above-end n l = let z = List·getD-eq-default timeline 0 {n = n} l in newest-miss timeline g n (λ q. omega arith)
 
     newest-min : (m n : ℕ) → length timeline ≤ m → newest timeline g n ≡ newest timeline g (min n m)
     newest-min m zero l = let e : min 0 m ≡ 0 = omega arith in rw e
@@ -51,7 +37,7 @@ module _ (timeline : List ℕ) where
         (λ h. let e : min n m ≡ min (suc n) m = omega arith in above-end n (omega arith) ∙ newest-min m n l ∙ ap (newest timeline g) e)
 
     newest-within : (n : ℕ) → length timeline ≤ timestamps → newest timeline g n ≤ timestamps
-    newest-within n l = rw (newest-min timestamps n l) (omega (arith, newest-le (min n timestamps)))
+    newest-within n l = rw (newest-min timestamps n l) (omega (arith, newest-of timeline g (min n timestamps) .below))
 
 -- how many numbers are 0
 abbrev pub zeros : List ℕ → ℕ

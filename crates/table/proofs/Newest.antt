@@ -7,8 +7,8 @@ use mathlib.Core.Path.{_≡_, sym, _∙_, ap}
 use mathlib.Core.List.{List}
 use native.Mathlib.Omega.{arith}
 use lib.ListN.{getD}
-use borrow.Author.Tests.{eq-eqb, ne-eqb}
 use Rattle.model.specs.State.{newest, completed}
+use Rattle.model.proofs.CompletedInstants.{newest-hit, newest-miss}
 
 -- no instant above n is a completed one of file group g
 pub record Searched (timeline : List ℕ) (g upto n : ℕ) : Type 0 where
@@ -22,12 +22,12 @@ module _ {timeline : List ℕ} {g upto : ℕ} where
   pub hit : {n : ℕ} → Searched timeline g upto n → 0 < n → getD timeline (n - 1) 0 ≡ completed g → n ≡ newest timeline g upto
   unfolding newest
   hit {n = zero} v p e = sym (v .same)
-  hit {n = suc n} v p e = rw (v .same, eq-eqb _ _ (rw (pred-suc n) at e))
+  hit {n = suc n} v p e = sym (v .same ∙ newest-hit timeline g n (rw (pred-suc n) at e))
 
   pub miss : {n : ℕ} → Searched timeline g upto n → 0 < n → (getD timeline (n - 1) 0 ≡ completed g → ⊥) → Searched timeline g upto (n - 1)
   unfolding newest
   miss {n = zero} v p e = v
-  miss {n = suc n} v p e = rw (pred-suc n) (record { within = omega (arith, v .within); same = rw (v .same, ne-eqb _ _ (rw (pred-suc n) at e)) })
+  miss {n = suc n} v p e = rw (pred-suc n) (record { within = omega (arith, v .within); same = v .same ∙ newest-miss timeline g n (rw (pred-suc n) at e) })
 
   pub no-hit : {n : ℕ} → Searched timeline g upto n → n ≤ 0 → 0 ≡ newest timeline g upto
   unfolding newest
