@@ -1,5 +1,5 @@
 -- What follows, after any list of steps from a fresh table.
---     lock-excludes      while a writer holds the lock, no other writer's step changes any scan
+--     lock-excludes      while a writer holds the lock, no other writer's step changes the rows at any timestamp, and so no scan
 --     abort-frees        an abort by the lock's holder frees the lock
 --     point-read-listed  a point read gives the key's row of the history's listing, or absent
 --     slice-stays        the slice of a committed operation never changes
@@ -16,11 +16,11 @@ use Rattle.model.specs.State.{cell}
 use Rattle.model.specs.Rules.{act, abort, step}
 use Rattle.model.specs.Snapshot.{rowsAt, firstOf, pointRead}
 use Rattle.model.specs.History.{Committed, started, dropped, newestOn, rowOfNewest, listing}
-use Rattle.model.specs.Isolation.{World, next, along, after}
+use Rattle.model.specs.Isolation.{Execution, next, executed, beginning, after}
 use Rattle.model.specs.declared.Action.the-variants.{Abort}
 use Rattle.model.specs.declared.Step.{Step}
 use Rattle.model.proofs.CommittedAt.{committedAt-mem}
-use Rattle.model.proofs.Along.{along-keeps, along-append}
+use Rattle.model.proofs.Executed.{executed-keeps, executed-append}
 use Rattle.model.proofs.RangeKept.{ranged}
 use Rattle.model.proofs.Slices.{cells-cell}
 use Rattle.model.proofs.Moves.{View, Move, stays, starts, continues, ends, commits}
@@ -28,7 +28,7 @@ use Rattle.model.proofs.Invariant.{Invariant, committed-completed}
 use Rattle.model.proofs.InvariantKept.{move-keeps}
 use Rattle.model.proofs.StepMoves.{viewOf, Consistent, step-moves, step-consistent}
 use Rattle.model.proofs.Listing.{rows-of, rows-listed}
-use Rattle.model.proofs.Isolation.{beginning, reached}
+use Rattle.model.proofs.Isolation.{reached}
 
 -- a writer that does not hold the lock commits nothing
 pub commits-nothing : (v n : View) (w : ℕ) → Invariant v → v .lock ≢ w + 1 → Move v w n → n .history .done ≡ v .history .done
@@ -39,7 +39,7 @@ commits-nothing v n w i free (continues p e) = ap (λ (x : View). x .history .do
 commits-nothing v n w i free (ends at e) = ap (λ (x : View). x .history .done) e
 commits-nothing v n w i free (commits p at is e) = absurd (free (i .writer w .locks (omega arith)))
 
-rows-stay : (u : World) → Consistent u → (s : Step) → u .state .shared .lock ≢ s .writer + 1
+rows-stay : (u : Execution) → Consistent u → (s : Step) → u .state .shared .lock ≢ s .writer + 1
     → (t : ℕ) → rowsAt (step (u .state) s .state .shared) t ≡ rowsAt (u .state .shared) t
 unfolding next listing
 rows-stay u h s free t =
@@ -87,10 +87,10 @@ slice-stays ss more c m k small =
     let h = reached ss in
     let completed = committed-completed (viewOf u) (h .invariant) (c .ts) c (committedAt-mem (u .history .done) (h .invariant .distinct) c m) in
     let stored =
-    along-keeps (λ n. Consistent n × Stored (c .ts) (c .group) (viewOf u) (viewOf n))
+    executed-keeps (λ n. Consistent n × Stored (c .ts) (c .group) (viewOf u) (viewOf n))
     (λ n x (r, s). (step-consistent n x r, move-stored (c .ts) (c .group) (viewOf u) _ _ (x .writer) (r .invariant) (step-moves n x r) s))
     u more (h, record { completed = completed; cell = refl }) in
-    rw (along-append beginning ss more)
-    (sym (cells-cell (along u more .state .shared) (c .ts) k small)
+    rw (executed-append beginning ss more)
+    (sym (cells-cell (executed u more .state .shared) (c .ts) k small)
     ∙ ap (λ f. f k) (stored .1 .cell)
     ∙ cells-cell (u .state .shared) (c .ts) k small)

@@ -8,7 +8,7 @@ use mathlib.Core.Option.{Option, none, some, map-eq-none-iff}
 use native.Mathlib.Omega.{arith}
 use Rattle.model.specs.Counting.{upd}
 use Rattle.model.specs.State.{ready}
-use Rattle.model.specs.Rules.{keyOf, begun}
+use Rattle.model.specs.Rules.{keyOf, begun, released}
 use Rattle.model.specs.History.{Pending, Committed, started, joined, dropped}
 use Rattle.model.specs.declared.Writer.{Writer}
 use Rattle.model.specs.declared.Operation.{Operation}
@@ -17,7 +17,7 @@ use Rattle.model.proofs.Cases.{cond-iff, by-test, facts}
 use Rattle.model.proofs.Functions.{none-some, some-inj, upd-same, upd-other, upd-ind}
 use Rattle.model.proofs.Newest.{Newest, newest-kept}
 use Rattle.model.proofs.CommittedAt.{committedAt, groupIn}
-use Rattle.model.proofs.Moves.{View, leftBy, leaves, released, afterStart, afterPhase, afterEnd, afterCommit, NextPhase, looksUp, reads, writes, indexes, checks, Move, stays, starts, continues, ends, commits}
+use Rattle.model.proofs.Moves.{View, leftBy, leaves, afterStart, afterPhase, afterEnd, afterCommit, NextPhase, looksUp, reads, writes, indexes, checks, Move, stays, starts, continues, ends, commits}
 use Rattle.model.proofs.Invariant.{InProgress, Based, WriterFacts, CommittedFacts, Invariant, committed-completed}
 
 -- what a move keeps of the part that all writers share

@@ -10,12 +10,12 @@ use Rattle.model.specs.Limits.{writers, keys, timestamps}
 use Rattle.model.specs.Counting.{upd, listBelow}
 use Rattle.model.specs.State.{ready, fresh}
 use Rattle.model.specs.History.{Pending, History, empty, started, joined, dropped, newestOn, rowOfNewest, listing}
-use Rattle.model.specs.Isolation.{World, along, after, Isolated}
+use Rattle.model.specs.Isolation.{Execution, executed, beginning, after, Isolated}
 use Rattle.model.specs.declared.Writer.{Writer}
 use Rattle.model.specs.declared.Step.{Step}
 use Rattle.model.proofs.Functions.{none-some, some-inj, upd-ind, getD-fresh}
 use Rattle.model.proofs.CompletedInstants.{groupCompleted, completedAt}
-use Rattle.model.proofs.Along.{along-keeps, along-append}
+use Rattle.model.proofs.Executed.{executed-keeps, executed-append}
 use Rattle.model.proofs.RangeKept.{fresh-in-range}
 use Rattle.model.proofs.CommittedAt.{committedAt, newest-on-later}
 use Rattle.model.proofs.Slices.{cells-zero}
@@ -24,10 +24,6 @@ use Rattle.model.proofs.Moves.{View, Move, stays, starts, continues, en
 use Rattle.model.proofs.InvariantKept.{ready-facts}
 use Rattle.model.proofs.StepMoves.{viewOf, Consistent, step-moves, step-consistent}
 use Rattle.model.proofs.Listing.{in-slice, scan-listed}
-
--- the fresh table and the empty history satisfy the invariant
-abbrev pub beginning : World
-beginning = record { state = fresh; history = empty }
 
 fresh-completed : (s : ℕ) → completedAt (replicate timestamps 0) s ≡ none
 unfolding groupCompleted
@@ -38,6 +34,7 @@ fresh-writer : (w : ℕ) → viewOf beginning .writer w ≡ ready
 unfolding fresh
 fresh-writer w = getD-fresh writers w ready
 
+-- the fresh table and the empty history satisfy the invariant
 fresh-consistent : Consistent beginning
 unfolding fresh empty committedAt
 fresh-consistent =
@@ -57,11 +54,11 @@ fresh-consistent =
           };
     }
 
-pub along-consistent : (u : World) (ss : List Step) → Consistent u → Consistent (along u ss)
-along-consistent = along-keeps Consistent step-consistent
+pub executed-consistent : (u : Execution) (ss : List Step) → Consistent u → Consistent (executed u ss)
+executed-consistent = executed-keeps Consistent step-consistent
 
 pub reached : (ss : List Step) → Consistent (after ss)
-reached ss = along-consistent beginning ss fresh-consistent
+reached ss = executed-consistent beginning ss fresh-consistent
 
 -- the timestamp t is issued, every operation in progress holds a later one, and what is committed at or before t is what `h` has
 pub record Settled (t : ℕ) (h n : History) : Type 0 where
@@ -103,12 +100,12 @@ module _ (t : ℕ) (h : History) (v : View) (w : ℕ) (s : Settled t h (v .histo
       })
 
 -- the listing at such a timestamp stays, whatever steps follow
-pub listing-stays : (t : ℕ) (u : World) (ss : List Step) → Consistent u → Settled t (u .history) (u .history)
-    → listing (along u ss .history) t ≡ listing (u .history) t
+pub listing-stays : (t : ℕ) (u : Execution) (ss : List Step) → Consistent u → Settled t (u .history) (u .history)
+    → listing (executed u ss .history) t ≡ listing (u .history) t
 unfolding listing
 listing-stays t u ss h s =
     let kept =
-    along-keeps (λ n. Consistent n × Settled t (u .history) (n .history))
+    executed-keeps (λ n. Consistent n × Settled t (u .history) (n .history))
     (λ n x (c, s). (step-consistent n x c, move-settled t (u .history) (viewOf n) (x .writer) s _ (step-moves n x c))) u ss (h, s) in
     ap (listBelow keys) (fun-ext (λ k. ap rowOfNewest (kept .1 .same k)))
 
@@ -122,5 +119,5 @@ isolated ss =
       stays =
           λ t positive issued later more buffer room.
           let same = listing-stays t (after ss) more h (record { issued = issued; later = later; same = λ k. refl }) in
-          rw (along-append beginning ss more, ← same) (scan-listed (along (after ss) more) (along-consistent (after ss) more h) t buffer (rw same room));
+          rw (executed-append beginning ss more, ← same) (scan-listed (executed (after ss) more) (executed-consistent (after ss) more h) t buffer (rw same room));
     }

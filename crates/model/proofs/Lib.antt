@@ -9,7 +9,7 @@ pub mod Outcomes
 pub mod Ranged
 pub mod Actions
 pub mod Refused
-pub mod Along
+pub mod Executed
 pub mod RangeKept
 pub mod Moves
 pub mod Invariant

@@ -15,7 +15,7 @@ use Rattle.model.specs.State.{newest, cell}
 use Rattle.model.specs.Rules.{keyOf}
 use Rattle.model.specs.Snapshot.{rowIf, shown, rowsOf, rowsAt, listed, scan}
 use Rattle.model.specs.History.{Committed, newestOn, putRow, rowOfNewest, listing}
-use Rattle.model.specs.Isolation.{World}
+use Rattle.model.specs.Isolation.{Execution}
 use Rattle.model.specs.declared.Operation.{Operation}
 use Rattle.model.specs.declared.Operation.the-variants.{Put, Remove}
 use Rattle.model.proofs.Functions.{none-some, some-inj, upd-ind}
@@ -95,7 +95,7 @@ put-row : (op : Operation) (g : ℕ) → rowIf (keyOf op) g (leftBy op) ≡ putR
 put-row (Put k v g′) g = refl
 put-row (Remove k) g = refl
 
-module _ (u : World) (h : Consistent u) (t : ℕ) where
+module _ (u : Execution) (h : Consistent u) (t : ℕ) where
   abbrev v : View
   v = viewOf u
 
@@ -148,7 +148,7 @@ module _ (u : World) (h : Consistent u) (t : ℕ) where
   scan-listed buffer room = rw (h .ranged, rows-listed, le-ltb _ _ room)
 
 -- a key in a committed slice is indexed to the slice's group
-pub in-slice : (u : World) → Consistent u → (c : Committed) → List·Memᴰ c (u .history .done) → (k x : ℕ) → k < keys
+pub in-slice : (u : Execution) → Consistent u → (c : Committed) → List·Memᴰ c (u .history .done) → (k x : ℕ) → k < keys
     → cell (u .state .shared) (c .ts) k ≡ some x → viewOf u .entry k ≡ c .group + 1
 in-slice u h c m k x lt e =
     let is = committedAt-mem (u .history .done) (h .invariant .distinct) c m in

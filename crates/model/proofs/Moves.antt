@@ -4,10 +4,9 @@ use mathlib.Core.Path.{_≡_}
 use mathlib.Core.Logic.{_≢_}
 use mathlib.Core.Bool.{true, false, cond}
 use mathlib.Core.Option.{Option, none, some}
-use lib.Dec.{eqb}
 use Rattle.model.specs.Counting.{upd}
 use Rattle.model.specs.State.{ready}
-use Rattle.model.specs.Rules.{begun, moved}
+use Rattle.model.specs.Rules.{begun, moved, released}
 use Rattle.model.specs.History.{Pending, History, started, joined, dropped}
 use Rattle.model.specs.declared.Writer.{Writer}
 use Rattle.model.specs.declared.Operation.{Operation}
@@ -31,10 +30,6 @@ leftBy (Remove k) = none
 
 abbrev pub leaves : Writer → Option ℕ
 leaves x = cond (x .put) (some (x .value)) none
-
--- the lock after writer w's operation
-abbrev pub released : ℕ → ℕ → ℕ
-released l w = cond (eqb l (w + 1)) 0 l
 
 -- writer w starts an operation
 abbrev pub afterStart : View → ℕ → Operation → View

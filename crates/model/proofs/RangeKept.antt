@@ -19,7 +19,7 @@ use Rattle.model.specs.declared.Writer.{Writer}
 use Rattle.model.specs.declared.Step.{Step}
 use Rattle.model.proofs.Cases.{cond-iff, facts, set-ind}
 pub use Rattle.model.proofs.Ranged.{WriterRanged, Ranged, ranged, in-range}
-use Rattle.model.proofs.Along.{along-keeps}
+use Rattle.model.proofs.Executed.{executed-keeps}
 use Rattle.model.proofs.Actions.{Kept, act-sound}
 
 later-ranged : {last n : ℕ} {x : Writer} → last ≤ n → WriterRanged last x → WriterRanged n x
@@ -56,7 +56,7 @@ fresh-in-range = refl
 
 pub reached-in-range : (ss : List Step) → inRange (after ss .state) ≡ true
 unfolding next
-reached-in-range ss = along-keeps (λ u. inRange (u .state) ≡ true) (λ u s e. step-in-range (u .state) s e) _ ss fresh-in-range
+reached-in-range ss = executed-keeps (λ u. inRange (u .state) ≡ true) (λ u s e. step-in-range (u .state) s e) _ ss fresh-in-range
 
 pub never-out-of-range : (ss : List Step) (s : Step) → step (after ss .state) s .answer ≡ outOfRange → ⊥
 never-out-of-range ss s e = omega (arith, answer-in-range (after ss .state) s (reached-in-range ss), e)

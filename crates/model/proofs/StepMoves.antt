@@ -1,4 +1,4 @@
--- A step of the table, with the history fed by it, is a move of the view (`step-moves`), and so it keeps the invariant (`step-consistent`).
+-- A step of the table, with the history recorded by it, is a move of the view (`step-moves`), and so it keeps the invariant (`step-consistent`).
 use Prim.Native.Nat.{ℕ, suc, _+_, _-_, _≤_, _<_}
 use mathlib.Core.Path.{_≡_, refl, sym, ap, _∙_}
 use mathlib.Core.List.{List}
@@ -14,9 +14,9 @@ use Rattle.model.specs.Counting.{upd}
 use Rattle.model.specs.State.{Shared, requested, inflight, completed, ready}
 use Rattle.model.specs.Range.{inRange}
 use Rattle.model.specs.Rules.{Outcome, begun, Answered, updated, step}
-use Rattle.model.specs.Snapshot.{instantOf, instantAt}
-use Rattle.model.specs.History.{Pending, History, started, joined, dropped, fed}
-use Rattle.model.specs.Isolation.{groupGiven, World, next}
+use Rattle.model.specs.Snapshot.{instantOf}
+use Rattle.model.specs.History.{Pending, History, started, joined, dropped, recorded}
+use Rattle.model.specs.Isolation.{Execution, answeredBy, next}
 use Rattle.model.specs.declared.Writer.{Writer}
 use Rattle.model.specs.declared.Action.{Action}
 use Rattle.model.specs.declared.Step.{Step}
@@ -31,7 +31,7 @@ use Rattle.model.proofs.Moves.{View, afterStart, afterPhase, afterEnd, 
 use Rattle.model.proofs.Invariant.{Invariant}
 use Rattle.model.proofs.InvariantKept.{move-keeps}
 
-abbrev pub viewOf : World → View
+abbrev pub viewOf : Execution → View
 viewOf u =
     record {
       last = u .state .shared .last;
@@ -44,7 +44,7 @@ viewOf u =
     }
 
 -- a table and a history that satisfy the invariant
-pub record Consistent (u : World) : Type 0 where
+pub record Consistent (u : Execution) : Type 0 where
   pub sized : Sized (u .state)
   pub ranged : inRange (u .state) ≡ true
   pub invariant : Invariant (viewOf u)
@@ -54,31 +54,27 @@ view-path : (v n : View) → v .last ≡ n .last → v .lock ≡ n .lock → v .
 view-path v n p q r s t x h = λ i. record { last = p i; lock = q i; entry = r i; completed = s i; cell = t i; writer = x i; history = h i }
 
 -- the history after an answer
-fed-refused : (h : History) (s : Step) (n : ℕ) (g : ℕ → ℕ) → aborted < n → fed h s n g ≡ h
-unfolding fed
-fed-refused h s n g p = rw (ne-eqb n taken (omega arith), ne-eqb n committed (omega arith), lt-leb n aborted p)
+recorded-refused : (h : History) (s : Step) (n : ℕ) (g : ℕ → ℕ) → aborted < n → recorded h s n g ≡ h
+unfolding recorded
+recorded-refused h s n g p = rw (ne-eqb n taken (omega arith), ne-eqb n committed (omega arith), lt-leb n aborted p)
 
-fed-ended : (h : History) (s : Step) (n : ℕ) (g : ℕ → ℕ) → committed < n → n ≤ aborted → fed h s n g ≡ dropped h (s .writer)
-unfolding fed
-fed-ended h s n g p q = rw (ne-eqb n taken (omega arith), ne-eqb n committed (omega arith), le-leb n aborted q)
+recorded-ended : (h : History) (s : Step) (n : ℕ) (g : ℕ → ℕ) → committed < n → n ≤ aborted → recorded h s n g ≡ dropped h (s .writer)
+unfolding recorded
+recorded-ended h s n g p q = rw (ne-eqb n taken (omega arith), ne-eqb n committed (omega arith), le-leb n aborted q)
 
-fed-taken : (h : History) (s : Step) (g : ℕ → ℕ) → fed h s taken g ≡ started h (s .writer) (s .action)
-unfolding fed
-fed-taken h s g = refl
+recorded-taken : (h : History) (s : Step) (g : ℕ → ℕ) → recorded h s taken g ≡ started h (s .writer) (s .action)
+unfolding recorded
+recorded-taken h s g = refl
 
-fed-committed : (h : History) (s : Step) (g : ℕ → ℕ) → fed h s committed g ≡ joined h (s .writer) g (h .pending (s .writer))
-unfolding fed
-fed-committed h s g = refl
+recorded-committed : (h : History) (s : Step) (g : ℕ → ℕ) → recorded h s committed g ≡ joined h (s .writer) g (h .pending (s .writer))
+unfolding recorded
+recorded-committed h s g = refl
 
 joined-group : (h : History) (w : ℕ) (p : Pending) (g i : ℕ → ℕ) → g (p .ts) ≡ i (p .ts) → joined h w g (some p) ≡ joined h w i (some p)
 unfolding joined
 joined-group h w p g i e = rw e
 
--- the world after an answer
-abbrev answeredBy : World → Step → Answered → World
-answeredBy u s r = record { state = r .state; history = fed (u .history) s (r .answer) (λ n. groupGiven (instantAt (r .state) n)) }
-
-module _ (u : World) (h : Consistent u) (w : ℕ) (there : w < writers) where
+module _ (u : Execution) (h : Consistent u) (w : ℕ) (there : w < writers) where
   abbrev v : View
   v = viewOf u
 
@@ -109,40 +105,40 @@ module _ (u : World) (h : Consistent u) (w : ℕ) (there : w < writers) where
   acted-moves (isRefused a n p) fine =
       stays
       (view-path _ v refl refl refl refl refl
-      (ap {B = ℕ → Writer} (λ (l : List Writer) (i : ℕ). getD l i ready) (set-getD (u .state .writers) w ready)) (fed-refused _ _ n _ (omega arith)))
-  acted-moves (isEnded a n p) fine = ends (p .2) (view-path _ (afterEnd v w) refl refl refl refl refl (writer-path ready) (fed-ended _ _ n _ (p .0) (p .1)))
+      (ap {B = ℕ → Writer} (λ (l : List Writer) (i : ℕ). getD l i ready) (set-getD (u .state .writers) w ready)) (recorded-refused _ _ n _ (omega arith)))
+  acted-moves (isEnded a n p) fine = ends (p .2) (view-path _ (afterEnd v w) refl refl refl refl refl (writer-path ready) (recorded-ended _ _ n _ (p .0) (p .1)))
   acted-moves (hasStarted op k g p l) fine =
       starts op p
       (view-path _ (afterStart v w op) refl refl refl
       (completed-upd (sh .timeline) _ (suc (sh .last)) requested (instant-next (sh .timeline) (sh .last) requested (omega (arith, h .sized .timeline)))
       ∙ upd-id (v .completed) (suc (sh .last)) _ (h .invariant .above (suc (sh .last)) (omega arith) ∙ sym requested-group))
-      refl (writer-path (begun op (sh .last + 1))) (fed-taken _ _ _))
+      refl (writer-path (begun op (sh .last + 1))) (recorded-taken _ _ _))
   acted-moves (hasFound p ne) fine =
       continues (looksUp (v .entry (x .key) - 1) p (λ r. omega arith))
-      (view-path _ (afterPhase v w _ _ _ _) refl refl refl refl refl (writer-path _) (fed-taken _ _ _))
+      (view-path _ (afterPhase v w _ _ _ _) refl refl refl refl refl (writer-path _) (recorded-taken _ _ _))
   acted-moves (hasProposed p put) fine =
       continues (looksUp _ p (λ r. absurd (true≢false (sym put ∙ r))))
-      (view-path _ (afterPhase v w _ _ _ _) refl refl refl refl refl (writer-path _) (fed-taken _ _ _))
+      (view-path _ (afterPhase v w _ _ _ _) refl refl refl refl refl (writer-path _) (recorded-taken _ _ _))
   acted-moves (hasRead p q) fine =
       continues (reads _ p (newest-of (sh .timeline) (x .group) (sh .last)) q)
       (view-path _ (afterPhase v w _ _ _ _) refl refl refl
       (completed-upd (sh .timeline) _ (x .ts) (inflight (x .group)) (instant-set (sh .timeline) (x .ts) (inflight (x .group)) (fits .issued (omega arith)) listed)
       ∙ upd-id (v .completed) (x .ts) _ (h .invariant .writer w .inProgress (omega arith) .uncompleted ∙ sym (inflight-group (x .group) (fits .group))))
-      refl (writer-path _) (fed-taken _ _ _))
+      refl (writer-path _) (recorded-taken _ _ _))
   acted-moves (hasWritten p) fine =
       continues (writes p)
       (view-path _ (afterPhase v w _ _ _ _) refl refl refl refl
       (cells-sliced (sh .present) (sh .values) x (fits .issued (omega arith)) (fits .key) (omega (arith, issued, h .sized .present))
       (omega (arith, issued, h .sized .values)))
-      (writer-path _) (fed-taken _ _ _))
+      (writer-path _) (recorded-taken _ _ _))
   acted-moves (hasEntered i p e) fine =
       continues
       (indexes (λ k. getD i k 0) (λ put. entry-path i (e .put put) ∙ getD-upd (sh .index) (x .key) _ 0 (omega (arith, fits .key, h .sized .index)))
       (λ remove. entry-path i (e .remove remove)) p (e .free) (e .same))
-      (view-path _ (afterPhase v w _ _ _ _) refl refl refl refl refl (writer-path _) (fed-taken _ _ _))
+      (view-path _ (afterPhase v w _ _ _ _) refl refl refl refl refl (writer-path _) (recorded-taken _ _ _))
   acted-moves (hasChecked p q) fine =
       continues (checks _ p (newest-of (sh .timeline) (x .group) (sh .last)) q)
-      (view-path _ (afterPhase v w _ _ _ _) refl refl refl refl refl (writer-path _) (fed-taken _ _ _))
+      (view-path _ (afterPhase v w _ _ _ _) refl refl refl refl refl (writer-path _) (recorded-taken _ _ _))
   acted-moves (hasCommitted i p is) fine =
       let b = h .invariant .writer w .inProgress (omega arith) in
       let done = instant-set (sh .timeline) (x .ts) i (fits .issued (omega arith)) listed in
@@ -151,10 +147,10 @@ module _ (u : World) (h : Consistent u) (w : ℕ) (there : w < writers) where
       (view-path _ (afterCommit v w (b .pending)) refl refl refl
       (completed-upd (sh .timeline) _ (x .ts) i done ∙ ap (upd (v .completed) (x .ts)) (ap groupCompleted is ∙ completed-group (x .group)))
       refl (writer-path ready)
-      (fed-committed _ _ _ ∙ ap (joined (u .history) w _) (b .is) ∙ joined-group (u .history) w (b .pending) _ (λ n. x .group) given))
+      (recorded-committed _ _ _ ∙ ap (joined (u .history) w _) (b .is) ∙ joined-group (u .history) w (b .pending) _ (λ n. x .group) given))
 
-pub step-moves : (u : World) (s : Step) → Consistent u → Move (viewOf u) (s .writer) (viewOf (next u s))
-unfolding next step fed
+pub step-moves : (u : Execution) (s : Step) → Consistent u → Move (viewOf u) (s .writer) (viewOf (next u s))
+unfolding next step recorded
 step-moves u s h = moves (step-in-range (u .state) s (h .ranged))
   where
     moves : inRange (step (u .state) s .state) ≡ true → Move (viewOf u) (s .writer) (viewOf (answeredBy u s (step (u .state) s)))
@@ -167,7 +163,7 @@ step-moves u s h = moves (step-in-range (u .state) s (h .ranged))
           ),
         )
 
-pub step-consistent : (u : World) (s : Step) → Consistent u → Consistent (next u s)
+pub step-consistent : (u : Execution) (s : Step) → Consistent u → Consistent (next u s)
 unfolding next
 step-consistent u s h =
     record {

@@ -1,5 +1,6 @@
 -- The history of a list of steps, document 01, "The book behind demand 3": what was issued, what is in progress and what is committed.
--- It is fed each step with its answer and, after answer 1, the file group that the instant call then gives; it sees nothing else of the table.
+-- It is given each step with its answer and, after answer 1, the file group that the instant call then gives for the timestamp just committed;
+-- it sees nothing else of the table.
 use Prim.Native.Nat.{ℕ, _+_}
 use mathlib.Core.Bool.{cond, _&&_}
 use mathlib.Core.List.{List, [], _∷_}
@@ -50,24 +51,24 @@ started h w Abort = h
 
 -- "Answer 1: the writer's open operation joins the committed ones with that group; the writer has none."
 unfoldable pub joined : History → ℕ → (ℕ → ℕ) → Option Pending → History
-joined h w groupOf none = h
-joined h w groupOf (some p) =
+joined h w groupAt none = h
+joined h w groupAt (some p) =
     record {
       last = h .last;
       pending = upd (h .pending) w none;
-      done = record { operation = p .operation; ts = p .ts; group = groupOf (p .ts) } ∷ h .done;
+      done = record { operation = p .operation; ts = p .ts; group = groupAt (p .ts) } ∷ h .done;
     }
 
 -- "Answers 2 to 6: the writer's open operation is struck out."
 unfoldable pub dropped : History → ℕ → History
 dropped h w = record { last = h .last; pending = upd (h .pending) w none; done = h .done }
 
--- the history after a step and its answer; `groupOf` is what the instant call then gives for a timestamp.
+-- the history after a step and its answer; `groupAt` is what the instant call then gives for a timestamp.
 -- "Every other answer, and 0 to any other step: nothing changes."
-unfoldable pub fed : History → Step → ℕ → (ℕ → ℕ) → History
-fed h s answer groupOf =
+unfoldable pub recorded : History → Step → ℕ → (ℕ → ℕ) → History
+recorded h s answer groupAt =
     cond (eqb answer taken) (started h (s .writer) (s .action))
-    (cond (eqb answer committed) (joined h (s .writer) groupOf (h .pending (s .writer)))
+    (cond (eqb answer committed) (joined h (s .writer) groupAt (h .pending (s .writer)))
     (cond (leb answer aborted) (dropped h (s .writer)) h))
 
 -- the newer of a committed operation, if it is on key k and at or before t, and another one
@@ -80,7 +81,7 @@ unfoldable pub newestOn : List Committed → ℕ → ℕ → Option Committed
 newestOn [] k t = none
 newestOn (c ∷ cs) k t = newerOn k t c (newestOn cs k t)
 
--- "one row: the key, that put's value, and the group the book holds for that put"
+-- demand 3: "one row: the key, that put's value, and the group the book holds for that put"
 abbrev pub putRow : Operation → ℕ → List Row
 putRow (Put k v g) group = row k v group ∷ []
 putRow (Remove k) group = []
@@ -89,6 +90,6 @@ abbrev pub rowOfNewest : Option Committed → List Row
 rowOfNewest none = []
 rowOfNewest (some c) = putRow (c .operation) (c .group)
 
--- "exactly the keys whose newest committed operation at or before it is a put", "by rising key"
+-- demand 3: "exactly the keys whose newest committed operation at or before it (newest by timestamp) is a put", "the rows stand by rising key"
 unfoldable pub listing : History → ℕ → List Row
 listing h t = listBelow keys (λ k. rowOfNewest (newestOn (h .done) k t))

@@ -1,4 +1,4 @@
--- Demand 3, stated. The proof is in proofs/.
+-- Demand 3 of document 00, over document 01's "The book behind demand 3": the statement. The theorem is `isolated` in proofs/Isolation.antt.
 use Prim.Native.Nat.{ℕ, _*_, _≤_, _<_}
 use mathlib.Core.Path.{_≡_}
 use mathlib.Core.List.{List, [], _∷_, _++_, List·Memᴰ}
@@ -8,7 +8,7 @@ use Rattle.model.specs.Limits.{keys}
 use Rattle.model.specs.State.{State, fresh, cell}
 use Rattle.model.specs.Rules.{Answered, step}
 use Rattle.model.specs.Snapshot.{scan, listed, instantAt}
-use Rattle.model.specs.History.{Pending, Committed, History, empty, fed, listing}
+use Rattle.model.specs.History.{Pending, Committed, History, empty, recorded, listing}
 use Rattle.model.specs.declared.InstantState.{InstantState}
 use Rattle.model.specs.declared.InstantState.the-variants.{Refused, None, Requested, Inflight, Completed}
 use Rattle.model.specs.declared.Step.{Step}
@@ -22,32 +22,36 @@ groupGiven (Inflight g) = g
 groupGiven (Completed g) = g
 
 -- a table and its history
-pub record World : Type 0 where
+pub record Execution : Type 0 where
   pub state : State
   pub history : History
 
--- the table's answer to a step, and the history fed with it
-unfoldable pub next : World → Step → World
-next u s =
-    let r : Answered = step (u .state) s in
-    record { state = r .state; history = fed (u .history) s (r .answer) (λ n. groupGiven (instantAt (r .state) n)) }
+-- the table after an answer to a step, and the history with it
+abbrev pub answeredBy : Execution → Step → Answered → Execution
+answeredBy u s r = record { state = r .state; history = recorded (u .history) s (r .answer) (λ n. groupGiven (instantAt (r .state) n)) }
+
+unfoldable pub next : Execution → Step → Execution
+next u s = answeredBy u s (step (u .state) s)
 
 -- "Each step gets the table that the last one returned, and nobody else writes it."
-unfoldable pub along : World → List Step → World
-along u [] = u
-along u (s ∷ ss) = along (next u s) ss
+unfoldable pub executed : Execution → List Step → Execution
+executed u [] = u
+executed u (s ∷ ss) = executed (next u s) ss
 
 -- "any list of steps, refused ones included, from a fresh table"
-abbrev pub after : List Step → World
-after ss = along (record { state = fresh; history = empty }) ss
+abbrev pub beginning : Execution
+beginning = record { state = fresh; history = empty }
+
+abbrev pub after : List Step → Execution
+after ss = executed beginning ss
 
 -- demand 3, after a list of steps
 pub record Isolated (ss : List Step) : Type 0 where
-  -- "a scan at any timestamp, given room, lists exactly the keys whose newest committed operation at or before it is a put":
+  -- "a scan at any timestamp, given room, lists exactly the keys whose newest committed operation at or before it (newest by timestamp) is a put":
   -- it answers 0, counts these rows and stores them, and leaves what stands behind them
   pub lists : (t : ℕ) (buffer : List ℕ) → 3 * length (listing (after ss .history) t) ≤ length buffer
       → scan (after ss .state) t buffer ≡ listed (listing (after ss .history) t) buffer
-  -- "No key ever stands in the committed slices of two file groups."
+  -- "No key ever stands in the committed slices of two file groups.": the slice of a committed operation is that of its timestamp
   pub apart : (c d : Committed) → List·Memᴰ c (after ss .history .done) → List·Memᴰ d (after ss .history .done) → (k u v : ℕ) → k < keys
       → cell (after ss .state .shared) (c .ts) k ≡ some u → cell (after ss .state .shared) (d .ts) k ≡ some v → c .group ≡ d .group
   -- "If the timestamp has been issued and no operation in progress holds it or an earlier one, that listing stays the same whatever steps follow."

@@ -1,5 +1,6 @@
 -- Answer 17, document 01, "Answer numbers": "17 means only that some stored number lies outside its range above, a phase outside 0 to 6,
 -- a timestamp (a kept instant's too) or base above the last issued, or a timestamp of 0 for a writer off phase 0."
+-- A value needs no test: its type is its range.
 use Prim.Native.Nat.{ℕ}
 use mathlib.Core.Bool.{Bool, _||_}
 use mathlib.Core.List.{List, [], _∷_}

@@ -39,7 +39,7 @@ withInstant s n i = shared (s .last) (s .lock) (s .index) (set (s .timeline) (n 
 abbrev pub issued : Shared → Shared
 issued s = shared (s .last + 1) (s .lock) (s .index) (set (s .timeline) (s .last) requested) (s .present) (s .values)
 
--- the first k rows of the slice of timestamp n, taken over from the slice of b; none for b = 0
+-- the rows after the first k of the slice of timestamp n are taken over from the slice of b; none for b = 0
 unfoldable pub copied : {A : Type 0} → A → List A → ℕ → ℕ → ℕ → List A
 copied absent rows b n zero = rows
 copied absent rows b n (suc k) = set (copied absent rows b n k) (rowAt n k) (cond (eqb b 0) absent (getD rows (rowAt b k) absent))
@@ -73,9 +73,13 @@ begun (Remove k) n = record { phase = 1; put = false; key = k; group = 0; ts = n
 abbrev pub moved : Writer → ℕ → ℕ → ℕ → Writer
 moved x p g b = record { phase = p; put = x .put; key = x .key; group = g; ts = x .ts; base = b; value = x .value }
 
+-- the lock l after writer w has let go of it
+abbrev pub released : ℕ → ℕ → ℕ
+released l w = cond (eqb l (w + 1)) 0 l
+
 -- "Whoever ends or commits frees the lock if holding it, goes to phase 0, and keeps no operation, timestamp or base (all 0)."
 abbrev pub ended : ℕ → ℕ → Shared → Outcome
-ended n w s = outcome n ready (withLock s (cond (eqb (s .lock) (w + 1)) 0 (s .lock)))
+ended n w s = outcome n ready (withLock s (released (s .lock) w))
 
 -- 1. "Start (phase 0): the next timestamp, last issued plus 1, is given to it; the instant is requested. Phase 1."
 unfoldable pub start : Writer → Shared → Operation → Outcome
@@ -100,11 +104,12 @@ readBase x w s =
     (cond (ltb (x .ts) (newest (s .timeline) (x .group) (s .last))) (ended tooLate w s)
     (outcome taken (moved x 3 (x .group) (newest (s .timeline) (x .group) (s .last))) (withInstant s (x .ts) (inflight (x .group)))))
 
--- 4. "Write (3): a slice for this group and timestamp is stored: the base slice's rows (none for base 0) with the one key put or removed. Phase 4."
+-- 4. "Write (3): a slice for this group and timestamp is stored: the base slice's rows (none for base 0) with the one key put or removed.
+-- Readers don't see it yet. Phase 4."
 unfoldable pub writeSlice : Writer → Shared → Outcome
 writeSlice x s = cond (not (eqb (x .phase) 3)) (outcome wrongPhase x s) (outcome taken (moved x 4 (x .group) (x .base)) (withSlice s x))
 
--- a lock or an index entry, which is 0 for none and m + 1 for m, names another than n
+-- a lock or an index entry, which is 0 for none and m + 1 for m: it is set, and not to n
 abbrev pub namesOther : ℕ → ℕ → Bool
 namesOther e n = not (eqb e 0) && not (eqb e (n + 1))
 

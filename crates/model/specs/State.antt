@@ -45,7 +45,7 @@ unfoldable pub newest : List ℕ → ℕ → ℕ → ℕ
 newest timeline g zero = 0
 newest timeline g (suc n) = cond (eqb (getD timeline n 0) (completed g)) (suc n) (newest timeline g n)
 
--- where the row of key k stands in the slice of timestamp n
+-- the place of the row of key k in the slice of timestamp n
 abbrev pub rowAt : ℕ → ℕ → ℕ
 rowAt n k = (n - 1) * keys + k
 

@@ -1,4 +1,5 @@
--- Document 01, "Traces to hold it to": the traces marked P, one table of cases and one claim about all of it, proved from the definitions.
+-- Document 01, "Traces to hold it to": the traces marked P, and two that are not, in one table of cases with one claim about all of it,
+-- proved from the definitions.
 use Prim.Native.Nat.{ℕ}
 use mathlib.Core.Path.{_≡_, refl}
 use mathlib.Core.List.{List, [], _∷_, _++_, map}
@@ -7,11 +8,12 @@ use Rattle.leb128.specs.Coding.{encodedIn, encoded, decodedIn, decodedAt}
 use Rattle.leb128.specs.declared.Decoded.{Decoded}
 use Rattle.leb128.specs.declared.Decoded.the-variants.{Number, Stop}
 use Rattle.model.specs.Counting.{eachBelow, listBelow}
-use Rattle.model.specs.Limits.{timestamps}
+use Rattle.model.specs.Limits.{writers, keys, timestamps}
 use Rattle.model.specs.State.{State, fresh, newest}
 use Rattle.model.specs.Range.{inRange, writersInRange, indexInRange, instantsInRange, noneAbove}
 use Rattle.model.specs.Rules.{Answered, copied, sliced, start, lookUp, readBase, writeSlice, enterIndex, checkConflict, commit, abort, act, step}
 use Rattle.model.specs.Snapshot.{Listed, rowsAt, numbers, scan}
+use Rattle.model.specs.Isolation.{executed, next, after}
 use Rattle.model.specs.declared.Operation.{Operation}
 use Rattle.model.specs.declared.Operation.the-variants.{Put, Remove}
 use Rattle.model.specs.declared.Action.{Action}
@@ -30,14 +32,10 @@ abbrev pub decodedNumbers : Decoded → List ℕ
 decodedNumbers (Number value next) = value ∷ next ∷ []
 decodedNumbers (Stop stop) = stop ∷ []
 
--- the answers to steps, and the state after them
+-- the answers to steps
 unfoldable pub answersTo : State → List Step → List ℕ
 answersTo st [] = []
 answersTo st (s ∷ ss) = let r : Answered = step st s in r .answer ∷ answersTo (r .state) ss
-
-unfoldable pub stateAfter : State → List Step → State
-stateAfter st [] = st
-stateAfter st (s ∷ ss) = stateAfter (step st s .state) ss
 
 -- the answer of a scan, its row count and the lent numbers
 abbrev pub listedNumbers : Listed → List ℕ
@@ -48,7 +46,7 @@ unfoldable pub outcome : Case → List ℕ
 outcome (encode n) = encoded n
 outcome (decode bytes) = decodedNumbers (decodedAt bytes 0)
 outcome (steps ss) = answersTo fresh ss
-outcome (scanned ss t room) = listedNumbers (scan (stateAfter fresh ss) t (replicate room 0))
+outcome (scanned ss t room) = listedNumbers (scan (after ss .state) t (replicate room 0))
 
 -- a case and the outcome that document 01 states
 pub record Trace : Type 0 where
@@ -111,7 +109,7 @@ traces =
     ∷ (steps p6 gives 0 ∷ 0 ∷ 0 ∷ 0 ∷ 0 ∷ 0 ∷ 0 ∷ 0 ∷ 1 ∷ 0 ∷ 0 ∷ 4 ∷ [])  -- P6
     ∷ (steps p7 gives 0 ∷ 0 ∷ 0 ∷ 0 ∷ 0 ∷ 0 ∷ 0 ∷ 0 ∷ 1 ∷ 0 ∷ 0 ∷ 0 ∷ 0 ∷ 0 ∷ 1 ∷ 0 ∷ 3 ∷ [])  -- P7
     ∷ (steps (does 0 (Start (Remove 0)) ∷ does 0 LookUp ∷ []) gives 0 ∷ 2 ∷ [])  -- P8
-    ∷ (steps (does 8 (Start (Put 0 0 0)) ∷ does 8 (Start (Put 32 0 0)) ∷ []) gives 10 ∷ 10 ∷ [])  -- P9
+    ∷ (steps (does writers (Start (Put 0 0 0)) ∷ does writers (Start (Put keys 0 0)) ∷ []) gives 10 ∷ 10 ∷ [])  -- P9
     ∷ (scanned p10 3 6 gives 0 ∷ 2 ∷ 1 ∷ 10 ∷ 1 ∷ 2 ∷ 20 ∷ 2 ∷ [])  -- P10
     ∷ (scanned p10 4 6 gives 0 ∷ 2 ∷ 1 ∷ 10 ∷ 1 ∷ 2 ∷ 21 ∷ 2 ∷ [])  -- P10
     ∷ (scanned (p10 ++ restOf 0) 3 6 gives 0 ∷ 2 ∷ 1 ∷ 11 ∷ 1 ∷ 2 ∷ 20 ∷ 2 ∷ [])  -- P10, then 3 commits
@@ -120,5 +118,5 @@ traces =
     ∷ []
 
 pub traces-hold : map (λ (t : Trace). outcome (t .case)) traces ≡ map (λ (t : Trace). t .stated) traces
-unfolding traces outcome encoded encodedIn decodedAt decodedIn answersTo stateAfter step act start lookUp readBase writeSlice enterIndex checkConflict commit abort inRange eachBelow writersInRange indexInRange instantsInRange noneAbove newest copied sliced fresh scan rowsAt numbers listBelow
+unfolding traces outcome encoded encodedIn decodedAt decodedIn answersTo executed next step act start lookUp readBase writeSlice enterIndex checkConflict commit abort inRange eachBelow writersInRange indexInRange instantsInRange noneAbove newest copied sliced fresh scan rowsAt numbers listBelow
 traces-hold = refl
