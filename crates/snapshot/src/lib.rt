@@ -34,7 +34,7 @@ pub fn scan(
     present: &[bool; ROWS],
     values: &[Value; ROWS],
     at: u64,
-    buffer: &mut [Value],
+    buffer: &mut [Word],
 ) -> Scanned
     ensures { λ r. ⌜ scanned r buffer ≡ scan (stateBefore t present values) at (now (buffer .entry)) ⌝ }
 {

@@ -11,6 +11,7 @@ ghost use Rattle.snapshot.specs.Newest.{Slices};
 ghost use Rattle.snapshot.specs.Rows.{rowsOfKey, allRows, HasRow, SliceCounted, Counted, sum, Stored, KeyFits, AllFit};
 use model::Found;
 use model::Value;
+use model::Word;
 use model::limits::GROUPS;
 use model::limits::KEYS;
 use model::limits::ROWS;
@@ -116,7 +117,7 @@ pub fn total(counts: [u8; KEYS]) -> usize
 }
 
 // Stores a row at a place, and gives the place behind it.
-fn store_row(buffer: &mut [Value], at: usize, key: Value, value: Value, group: Value) -> usize
+fn store_row(buffer: &mut [Word], at: usize, key: Word, value: Value, group: Word) -> usize
     requires { ⌜ at + 3 ≤ length (now buffer) ⌝ }
     ensures { λ r. ⌜ Stored (row key value group ∷ []) at (now (buffer .entry)) (now (buffer .exit)) r ⌝ }
 {
@@ -134,7 +135,7 @@ fn store_key(
     key: usize,
     count: u8,
     lowest: u8,
-    buffer: &mut [Value],
+    buffer: &mut [Word],
     at: usize,
 ) -> usize
     requires { ⌜ KeyFits slices (now present) (now values) key count lowest at (length (now buffer)) ⌝ }
@@ -150,7 +151,7 @@ fn store_key(
         if has_row(present, slice, key) {
             let place = row_at(slice, key);
             let value = values[place];
-            next = store_row(&mut *buffer, next, key as Value, value, group as Value);
+            next = store_row(&mut *buffer, next, key as Word, value, group as Word);
             left -= 1;
         }
     }
@@ -163,7 +164,7 @@ pub fn store(
     present: &[bool; ROWS],
     values: &[Value; ROWS],
     shown: Shown,
-    buffer: &mut [Value],
+    buffer: &mut [Word],
 )
     requires { ⌜ AllFit slices (now present) (now values) shown (length (now buffer)) ⌝ }
     ensures { λ _. ⌜ now (buffer .exit) ≡ listed (allRows slices (now (present .entry)) (now (values .entry))) (now (buffer .entry)) .buffer ⌝ }

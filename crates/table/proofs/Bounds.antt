@@ -10,7 +10,8 @@ use Rattle.model.specs.State.{State, ready}
 use Rattle.model.specs.Range.{inRange}
 use Rattle.model.specs.declared.Writer.{Writer}
 use Rattle.model.proofs.Ranged.{WriterRanged, writer-ranged, ranged}
-use Rattle.table.specs.Acted.{Bounds, actorInRange}
+use Rattle.table.specs.Acted.{Bounds}
+use Rattle.table.specs.Parts.{actorInRange}
 
 started : (phase ts : ℕ) → phase ≤ 6 → (0 < phase → 0 < ts) → phase ≤ 6 * ts
 started zero ts l f = omega arith

@@ -1,18 +1,13 @@
 -- What the inner functions promise each other about an action's outcome.
 use Prim.Native.Nat.{ℕ, _*_, _<_, _≤_}
-use mathlib.Core.Bool.{Bool, cond, not}
-use mathlib.Core.List.{List, [], _∷_}
+use mathlib.Core.Bool.{Bool}
+use mathlib.Core.List.{List}
 use denote.Ref.{now}
-use lib.Dec.{ltb, leb}
-use Rattle.model.specs.Limits.{writers, keys, groups, timestamps}
-use Rattle.model.specs.Answers.{outOfRange}
-use Rattle.model.specs.Counting.{every}
+use Rattle.model.specs.Limits.{keys, groups, timestamps}
 use Rattle.model.specs.State.{Shared, shared}
-use Rattle.model.specs.Range.{writerInRange}
-use Rattle.model.specs.Rules.{Outcome, outcome, act}
+use Rattle.model.specs.Rules.{Outcome, outcome}
 use Rattle.model.specs.Calls.{Lent}
 use Rattle.model.specs.declared.Writer.{Writer}
-use Rattle.model.specs.declared.Action.{Action}
 use Rattle.table.specs.declared.rules.Acted.{Acted}
 
 -- the outcome that an action gave, with the arrays as it left them
@@ -38,11 +33,3 @@ pub record Bounds (last : ℕ) (x : Writer) : Type 0 where
   pub ts : x .ts ≤ last
   pub base : x .base ≤ last
   pub started : x .phase ≤ 6 * x .ts  -- a phase is at most 6, and 0 where the timestamp is
-
--- the number and the record of a writer, and the last timestamp, are in range
-abbrev pub actorInRange : ℕ → ℕ → Writer → Bool
-actorInRange w last x = every (ltb w writers ∷ leb last timestamps ∷ writerInRange last x ∷ [])
-
--- an action on the parts of a table: 17 where its actor is out of range
-unfoldable pub actOnParts : Writer → ℕ → Shared → Action → Outcome
-actOnParts x w s a = cond (not (actorInRange w (s .last) x)) (outcome outOfRange x s) (act x w s a)

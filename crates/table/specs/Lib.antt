@@ -1,2 +1,3 @@
 pub mod Acted
 pub mod Largest
+pub mod Parts

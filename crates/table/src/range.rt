@@ -6,7 +6,7 @@ ghost use Prim.Native.Nat.{ℕ, max};
 ghost use lib.ListN.{drop};
 ghost use Rattle.model.specs.State.{stateOf};
 ghost use Rattle.model.specs.Range.{writerInRange, writersInRange, inRange};
-ghost use Rattle.table.specs.Acted.{actorInRange};
+ghost use Rattle.table.specs.Parts.{actorInRange};
 ghost use Rattle.table.specs.Largest.{largest};
 use model::Table;
 use model::Writer;

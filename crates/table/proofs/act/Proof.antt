@@ -2,7 +2,7 @@
 use mathlib.Core.Path.{sym, _∙_}
 use borrow.Author.Tests.{not-false}
 use borrow.Author.Needs.{needs}
-use Rattle.table.specs.Acted.{actOnParts}
+use Rattle.table.specs.Parts.{actOnParts}
 use Rattle.table.proofs.Bounds.{actor-bounds}
 use Rattle.table.proofs.act.Statement.{statement}
 use Rattle.table.proofs.act.Tie as tie
