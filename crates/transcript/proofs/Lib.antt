@@ -1,0 +1,7 @@
+pub mod Decimal
+pub mod Pieces
+pub mod Parts
+pub mod Lines
+pub mod Sizes
+pub mod Printed
+pub mod LogRun

@@ -1,0 +1,78 @@
+-- The sizes of the parts of the text.
+--     decimal-most       a number has at most maxDigits digits
+--     decimal-within     and no more than j, where it is below 10 ^ j
+--     answers-most       n answers, each a byte, take at most 4 bytes each
+--     stop-most          the line of a stop, a byte, takes at most 33 bytes
+--     rows-most          a row takes at most 63 bytes
+--     run-most           so the text of a run has room
+use mathlib.Core.Path.{_≡_}
+use mathlib.Core.List.{List, [], _∷_}
+use mathlib.Core.Logic.{by-cases}
+use Prim.Native.Nat.{ℕ, zero, suc, _+_, _-_, _*_, _/_, _^_, _≤_, _<_}
+use native.Mathlib.Decide.{decLt}
+use native.Mathlib.Nat.{pow-succ'}
+use native.Mathlib.Omega.{arith}
+use lib.ListN.{length, take, getD, length-append}
+use Rattle.model.specs.Counting.{listBelow}
+use Rattle.model.specs.Snapshot.{Row}
+use Rattle.transcript.specs.Text.{newline, maxDigits, decimalIn, decimal, field, answerLines, stopLine, rowLine, rowOf, numberLines, runText, runRoom}
+use Rattle.transcript.proofs.Decimal.{short-in, long-in}
+
+-- ---- numbers
+most-in : (k n : ℕ) → length (decimalIn k n) ≤ suc k
+unfolding decimalIn
+most-in zero n = omega arith
+most-in (suc k) n = by-cases (decLt n 10)
+    (λ h. rw (short-in (suc k) n h) (omega arith))
+    (λ h. rw (long-in k n (omega arith), length-append) (omega (arith, most-in k (n / 10))))
+
+within-in : (k j n : ℕ) → n < 10 ^ suc j → length (decimalIn k n) ≤ suc j
+unfolding decimalIn
+within-in zero j n h = omega arith
+within-in (suc k) zero n h = rw (short-in (suc k) n (omega arith)) (omega arith)
+within-in (suc k) (suc j) n h = by-cases (decLt n 10)
+    (λ l. rw (short-in (suc k) n l) (omega arith))
+    (λ l. rw (long-in k n (omega arith), length-append) (omega (arith, within-in k j (n / 10) (omega (arith, pow-succ' 10 (suc j))))))
+
+pub decimal-most : (n : ℕ) → length (decimal n) ≤ maxDigits
+unfolding decimal
+decimal-most n = most-in (maxDigits - 1) n
+
+pub decimal-within : (j n : ℕ) → 1 ≤ j → n < 10 ^ j → length (decimal n) ≤ j
+unfolding decimal
+decimal-within zero n some h = absurd (omega arith)
+decimal-within (suc j) n some h = within-in (maxDigits - 1) j n h
+
+byte-within : (n : ℕ) → n < 256 → length (decimal n) ≤ 3
+byte-within n h = decimal-within 3 n (omega arith) (omega arith)
+
+field-length : (n end : ℕ) → length (field n end) ≡ length (decimal n) + 1
+unfolding field
+field-length n end = length-append (decimal n) (end ∷ [])
+
+-- ---- lines
+answers-most : (answers : List ℕ) → ((i : ℕ) → getD answers i 0 < 256) → (n : ℕ) → length (answerLines (take n answers)) ≤ 4 * n
+unfolding answerLines
+answers-most answers bytes zero = omega arith
+answers-most [] bytes (suc n) = omega arith
+answers-most (a ∷ answers) bytes (suc n) = rw length-append (omega (arith, field-length a newline, byte-within a (bytes 0), answers-most answers (λ i. bytes (suc i)) n))
+
+stop-most : (stop offset : ℕ) → stop < 256 → length (stopLine stop offset) ≤ 33
+unfolding stopLine
+stop-most stop offset byte = simp length-append (omega (arith, byte-within stop byte, field-length offset newline, decimal-most offset))
+
+row-most : (r : Row) → length (rowLine r) ≤ 63
+unfolding rowLine
+row-most r =
+    simp (length-append, field-length) (omega (arith, decimal-most (r .key), decimal-most (r .value), decimal-most (r .group)))
+
+rows-most : (ns : List ℕ) (count : ℕ) → length (numberLines ns count) ≤ 63 * count
+unfolding numberLines listBelow
+rows-most ns zero = omega arith
+rows-most ns (suc n) = rw length-append (omega (arith, row-most (rowOf ns n), rows-most ns n))
+
+pub run-most : (answers : List ℕ) (count stop offset : ℕ) (ns : List ℕ) (rows : ℕ) → ((i : ℕ) → getD answers i 0 < 256) → stop < 256
+    → length (runText (take count answers) stop offset ns rows) ≤ runRoom count rows
+unfolding runText
+run-most answers count stop offset ns rows bytes byte =
+    simp length-append (omega (arith, answers-most answers bytes count, stop-most stop offset byte, rows-most ns rows))

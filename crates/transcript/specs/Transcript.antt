@@ -1,0 +1,39 @@
+-- What the program prints for a log, document 01, "The step log" and the range of its input.
+use Prim.Native.Nat.{ℕ}
+use mathlib.Core.Bool.{cond}
+use mathlib.Core.List.{List, _++_}
+use lib.ListN.{length, take, replicate}
+use lib.Dec.{ltb}
+use Rattle.leb128.specs.Coding.{Stored}
+use Rattle.model.specs.State.{State, fresh}
+use Rattle.model.specs.Snapshot.{rowsAt}
+use Rattle.steplog.specs.Writing.{pasted}
+use Rattle.run.specs.Runs.{Run, ofLog, runOf}
+use Rattle.transcript.specs.Text.{answerLines, stopLine, rowLines, tooLong}
+
+-- "program input: 32,768 bytes"
+abbrev pub maxLog : ℕ
+maxLog = 32768
+
+-- places for the answers of a log: a record has at least two bytes
+abbrev pub maxAnswers : ℕ
+maxAnswers = 16384
+
+-- room for any text
+abbrev pub maxText : ℕ
+maxText = 81920
+
+-- the text of a run
+abbrev pub reported : Run State → List ℕ
+reported r =
+    answerLines (take (r .count) (r .answers)) ++ stopLine (r .stop) (r .offset) ++ rowLines (rowsAt (r .state .shared) (r .state .shared .last))
+
+-- "For longer input it prints only `too long`."
+unfoldable pub transcript : List ℕ → List ℕ
+transcript log = cond (ltb maxLog (length log)) tooLong (reported (runOf (ofLog log) fresh (replicate maxAnswers 0)))
+
+-- a log's text at the start of a buffer; nothing where the buffer has not room for any text
+unfoldable pub printed : List ℕ → List ℕ → Stored
+printed log buffer =
+    cond (ltb (length buffer) maxText) (record { size = 0; buffer = buffer })
+    (record { size = length (transcript log); buffer = pasted buffer 0 (transcript log) })
