@@ -5,3 +5,4 @@ pub mod Lines
 pub mod Sizes
 pub mod Printed
 pub mod LogRun
+pub mod TextOfSteps

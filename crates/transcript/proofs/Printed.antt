@@ -32,9 +32,9 @@ module _ (log text : List ℕ) where
     unfolding transcript
     too-long-printed long put = text-printed (rw (lt-ltb _ _ long) put)
 
-  pub printed-within : (size : ℕ) (buffer : List ℕ) → record { size = size; buffer = buffer } ≡ printed log text → length buffer ≡ length text → size ≤ length text
+  pub printed-within : (size : ℕ) (buffer : List ℕ) → record { size = size; buffer = buffer } ≡ printed log text → size ≤ length buffer
   unfolding printed pasted
-  printed-within size buffer is same = by-cases (decLt (length text) maxText)
+  printed-within size buffer is = by-cases (decLt (length text) maxText)
       (λ short. omega (arith, ap (λ (s : Stored). s .size) (rw (lt-ltb _ _ short) at is)))
       (λ room. let put = rw (le-ltb (length text) maxText (omega arith)) at is in
       let behind = drop (0 + length (transcript log)) text in

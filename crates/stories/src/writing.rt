@@ -1,0 +1,50 @@
+// The log writer.
+ghost use mathlib.Core.Path.{_≡_};
+ghost use Rattle.steplog.specs.Writing.{logWritten};
+ghost use Rattle.stories.specs.Steps.{putAndLookUp};
+use crate::print;
+use model::Action;
+use model::Operation;
+use model::Step;
+use steplog::Written;
+
+fn put_and_look_up() -> [Step; 2]
+    ensures { λ r. ⌜ r ≡ putAndLookUp ⌝ }
+{
+    let put = Operation::Put {
+        key: 1,
+        value: 300,
+        group: 2,
+    };
+    let start = Step {
+        writer: 0,
+        action: Action::Start(put),
+    };
+    let look_up = Step {
+        writer: 0,
+        action: Action::LookUp,
+    };
+    [start, look_up]
+}
+
+// The log of two steps, written into a buffer from a place on.
+fn write_two(buffer: &mut [u8], at: usize) -> Written
+    ensures { λ r. ⌜ record { answer = r .answer; count = r .count; buffer = now (buffer .exit) } ≡ logWritten putAndLookUp (now (buffer .entry)) at ⌝ }
+{
+    let steps = put_and_look_up();
+    steplog::write_log(&steps, buffer, at)
+}
+
+fn write_printed(label: &[u8], at: usize) {
+    let mut buffer = [255u8; 12];
+    let written = write_two(&mut buffer, at);
+    print::written(label, written, &buffer);
+}
+
+// Into a buffer of twelve bytes: past its end, where eight bytes don't fit, and where they do.
+pub fn log_writer() {
+    print::title(b"The log writer");
+    write_printed(b"place 13 of 12", 13);
+    write_printed(b"place 6 of 12", 6);
+    write_printed(b"place 3 of 12", 3);
+}

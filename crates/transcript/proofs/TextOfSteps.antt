@@ -1,0 +1,85 @@
+-- The text of a log that is run is that of its steps.
+--     taken-printed    of those that the run takes
+--     log-printed      which are all that the log reads as
+use Prim.Native.Nat.{ℕ, _≤_, _<_}
+use native.Mathlib.Decide.{ℕ-discrete, decLt}
+use native.Mathlib.Omega.{arith}
+use mathlib.Core.List.{List}
+use mathlib.Core.Logic.{_≢_, by-cases}
+use mathlib.Core.Path.{_≡_, sym, ap, _∙_}
+use lib.ListN.{length, getD, take, drop, replicate, length-replicate, length-append}
+use lib.Seq.{take-all}
+use borrow.Author.Tests.{le-ltb, eq-eqb, ne-eqb}
+use Rattle.model.specs.State.{State, fresh}
+use Rattle.model.specs.Snapshot.{rowsAt}
+use Rattle.model.specs.History.{listing}
+use Rattle.model.specs.Isolation.{after}
+use Rattle.model.proofs.Isolation.{reached}
+use Rattle.steplog.specs.Records.{usedUp, encodedSteps, LogRead, logRead}
+use Rattle.steplog.specs.declared.reading.Record.the-variants.{Stop}
+use Rattle.steplog.proofs.Sizes.{steps-most}
+use Rattle.steplog.proofs.EndOfLog.{at-end}
+use Rattle.steplog.proofs.RoundTrip.{log-stops}
+use Rattle.run.specs.Runs.{ofLog, takenFrom, Run, runOf}
+use Rattle.run.proofs.Taken.{run-taken, answers-taken}
+use Rattle.run.proofs.LogAsList.{placesFor, log-taken}
+use Rattle.run.proofs.RunState.{run-state}
+use Rattle.transcript.specs.Transcript.{maxLog, maxAnswers, reported, transcript, answersOf, stepsText}
+use Rattle.transcript.proofs.LogRun.{rows-of-history}
+
+module _ (log answers : List ℕ) where
+  abbrev run : Run State
+  run = runOf (ofLog log) fresh answers
+
+  abbrev taken : LogRead
+  taken = takenFrom (ofLog log) (length answers) 0
+
+  last-issued : run .state .shared .last ≡ after (taken .steps) .history .last
+  last-issued = ap (λ (st : State). st .shared .last) (run-state answers (ofLog log)) ∙ sym (reached (taken .steps) .invariant .last)
+
+  rows-listed : rowsAt (run .state .shared) (run .state .shared .last) ≡ listing (after (taken .steps) .history) (after (taken .steps) .history .last)
+  rows-listed = rows-of-history log answers _ ∙ ap (listing (after (taken .steps) .history)) last-issued
+
+  answers-given : take (run .count) (run .answers) ≡ answersOf (taken .steps)
+  unfolding runOf
+  answers-given = answers-taken _ _ (ofLog log) fresh answers
+
+  ended : (run .stop ≡ taken .stop) × (run .offset ≡ taken .offset)
+  unfolding runOf
+  ended = let is = run-taken _ _ (ofLog log) fresh answers in (ap (λ (r : Run State). r .stop) is, ap (λ (r : Run State). r .offset) is)
+
+  run-reported : reported run ≡ stepsText taken
+  run-reported = rw (answers-given, ended .0, ended .1, rows-listed)
+
+pub taken-printed : (log : List ℕ) → length log ≤ maxLog → transcript log ≡ stepsText (takenFrom (ofLog log) maxAnswers 0)
+unfolding transcript
+taken-printed log short =
+    rw (le-ltb _ _ short) (run-reported log (replicate maxAnswers 0) ∙ ap (λ (n : ℕ). stepsText (takenFrom (ofLog log) n 0)) (length-replicate {A = ℕ} maxAnswers 0))
+
+-- ---- all steps of the log
+module _ (log : List ℕ) (are-bytes : (i : ℕ) → getD log i 0 < 256) (short : length log ≤ maxLog) where
+  abbrev reads : LogRead
+  reads = logRead log
+
+  -- a record that stops the reading stands before the log's end
+  stops-inside : reads .stop ≢ usedUp → reads .offset < length log
+  stops-inside ne = by-cases (decLt (reads .offset) (length log)) (λ h. h)
+      (λ h. let e : Stop (reads .stop) ≡ Stop usedUp = sym (log-stops log are-bytes .stops) ∙ at-end log (reads .offset) (omega arith) in
+      absurd (ne (cc)))
+
+  places-enough : placesFor reads ≤ maxAnswers
+  places-enough =
+      let at = log-stops log are-bytes .bytes in
+      let all = ap length (at .code) ∙ length-append (encodedSteps (reads .steps)) (drop (reads .offset) log) in
+      by-cases (ℕ-discrete (reads .stop) usedUp)
+      (λ e. rw (eq-eqb _ _ e) (omega (arith, all, steps-most (reads .steps))))
+      (λ ne. rw (ne-eqb _ _ ne) (omega (arith, at .behind, stops-inside ne, steps-most (reads .steps))))
+
+  all-taken : takenFrom (ofLog log) maxAnswers 0 ≡ reads
+  all-taken =
+      let whole : take maxAnswers (reads .steps) ≡ reads .steps = take-all maxAnswers (reads .steps) (omega (arith, places-enough)) in
+      let offset : length (encodedSteps (reads .steps)) ≡ reads .offset = omega (arith, log-stops log are-bytes .bytes .behind) in
+      rw (log-taken log are-bytes maxAnswers, le-ltb _ _ places-enough, whole, offset)
+
+  pub log-printed : transcript log ≡ stepsText reads
+  log-printed = rw (← all-taken) (taken-printed log short)
