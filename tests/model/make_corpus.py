@@ -1,0 +1,578 @@
+#!/usr/bin/env python3
+"""Write a corpus of step logs and what the program prints for each.
+
+    python3 tests/model/make_corpus.py STDIN STDOUT HISTOGRAM
+
+STDIN gets each log as a 4-byte little-endian length and the log's bytes.
+STDOUT gets for each log the line ``log I``, counted from 0, and the program's
+text for it. HISTOGRAM gets Markdown tables of the answers and stops that occur
+and of the logs. The files are the same in every run.
+
+Every log is also run step by step against document 01's own claims: the scan
+lists what the history says, no key stands in the committed slices of two
+groups, the listing at a stable timestamp stays whatever steps follow (demand
+3), and the steps coded again give the log's bytes (demand 2).
+"""
+
+from __future__ import annotations
+
+import copy
+import random
+import struct
+import sys
+from collections import Counter
+from collections.abc import Callable, Iterator, Sequence
+from dataclasses import dataclass, replace
+from pathlib import Path
+
+from table_model import (
+    GROUPS,
+    KEYS,
+    MAX_INPUT,
+    MAX_NUMBER,
+    MAX_TIMESTAMP,
+    WRITERS,
+    Action,
+    Answer,
+    History,
+    Malformed,
+    Phase,
+    Put,
+    Remove,
+    Row,
+    Step,
+    Stop,
+    Table,
+    encode,
+    encode_number,
+    encode_step,
+    program,
+    read_record,
+)
+
+SEED = 20_240_501
+EDGE_VALUES = (0, 1, 127, 128, 16_383, 16_384, 2**31, MAX_NUMBER)
+
+
+class Draw:
+    """Pseudo-random choices that every Python version makes alike.
+
+    Of the ``random`` module only ``random()`` is promised to repeat its
+    sequence in later versions, so that everything is drawn from it.
+    """
+
+    def __init__(self, seed: int) -> None:
+        self._random = random.Random(seed).random
+
+    def below(self, bound: int) -> int:
+        return int(self._random() * bound)
+
+    def among(self, options: Sequence):
+        return options[self.below(len(options))]
+
+    def chance(self, probability: float) -> bool:
+        return self._random() < probability
+
+
+# --- Random walks ------------------------------------------------------------
+
+
+@dataclass(frozen=True)
+class Profile:
+    """How a random walk chooses its steps.
+
+    A walk goes on with the same writer with chance ``same_writer``; if
+    ``uneven``, writers with high numbers come seldom. A writer that would meet
+    a held lock tries nevertheless with chance ``stall``, else the holder goes
+    on. A step fits the writer's phase with chance ``fit``, and gives up with
+    chance ``give_up``. Successive starts share a key while ``starts_per_key``
+    timestamps are issued, or draw their keys if it is 0. Numbers out of range
+    come with chances that grow with ``wild``.
+    """
+
+    keys: Sequence[int]
+    groups: Sequence[int]
+    values: Sequence[int] = range(1000)
+    same_writer: float = 0.4
+    uneven: bool = False
+    stall: float = 0.2
+    fit: float = 0.95
+    give_up: float = 0.02
+    remove: float = 0.2
+    starts_per_key: int = 0
+    wild: float = 0.0
+
+
+ONE_GROUP = Profile(keys=range(3), groups=(0,), uneven=True)
+TWO_GROUPS = Profile(keys=range(4), groups=(3, 7), uneven=True)
+NEW_KEYS = Profile(keys=range(KEYS), groups=range(GROUPS), starts_per_key=4)
+REMOVES = Profile(keys=range(5), groups=range(3), remove=0.6)
+ALL_KEYS = Profile(keys=range(KEYS), groups=range(GROUPS), same_writer=0.8)
+STALLS = Profile(keys=range(4), groups=range(4), stall=1.0, give_up=0.0)
+EDGES = Profile(keys=(0, 31), groups=(0, 7), values=EDGE_VALUES, same_writer=0.7)
+DISORDER = Profile(keys=range(4), groups=range(2), fit=0.5)
+SHORT_LIVED = Profile(keys=range(6), groups=range(4), give_up=0.2, remove=0.4)
+WILD = Profile(keys=range(6), groups=range(4), values=EDGE_VALUES, wild=0.3)
+PROFILES = (
+    ONE_GROUP,
+    TWO_GROUPS,
+    NEW_KEYS,
+    REMOVES,
+    ALL_KEYS,
+    STALLS,
+    EDGES,
+    DISORDER,
+    SHORT_LIVED,
+    WILD,
+)
+
+
+def random_operation(draw: Draw, table: Table, profile: Profile) -> Put | Remove:
+    if profile.starts_per_key:
+        turn = table.last_timestamp // profile.starts_per_key
+        key = profile.keys[turn % len(profile.keys)]
+    else:
+        key = draw.among(profile.keys)
+    group = draw.among(profile.groups)
+    if draw.chance(profile.wild / 2):
+        key = draw.among((KEYS, KEYS + 1, 127, 128, MAX_NUMBER))
+    if draw.chance(profile.wild / 2):
+        group = draw.among((GROUPS, GROUPS + 1, 127, 128, MAX_NUMBER))
+    if draw.chance(profile.remove):
+        return Remove(key)
+    return Put(key, draw.among(profile.values), group)
+
+
+def random_step(draw: Draw, table: Table, profile: Profile, writer: int) -> Step:
+    """A step after one by this writer."""
+    if not draw.chance(profile.same_writer):
+        writer = draw.below(WRITERS)
+        if profile.uneven:
+            writer = draw.below(writer + 1)
+    if draw.chance(profile.wild / 4):
+        writer = draw.among((WRITERS, WRITERS + 1, 127, 128, 2**31, MAX_NUMBER))
+        return Step(writer, draw.among([Remove(0), *Action]))
+    if draw.chance(profile.give_up):
+        return Step(writer, Action.GIVE_UP)
+    phase = table.writers[writer].phase
+    if phase == Phase.INDEX and table.lock is not None:
+        if not draw.chance(profile.stall):
+            writer = table.lock
+            phase = table.writers[writer].phase
+    if not draw.chance(profile.fit):
+        phase = draw.among(list(Phase))
+    if phase == Phase.READY:
+        return Step(writer, random_operation(draw, table, profile))
+    return Step(writer, Action[phase.name])
+
+
+def walk(
+    draw: Draw,
+    profile: Profile,
+    length: int,
+    until: Callable[[Table], bool] = lambda table: False,
+    table: Table | None = None,
+) -> Iterator[Step]:
+    """Random steps, each taken on the table (by default a fresh one)."""
+    if table is None:
+        table = Table()
+    writer = 0
+    for _ in range(length):
+        if until(table):
+            return
+        step = random_step(draw, table, profile, writer)
+        table.step(step)
+        yield step
+        writer = step.writer % WRITERS
+
+
+# --- The logs ----------------------------------------------------------------
+
+
+def operation_steps(writer: int, operation: Put | Remove) -> list[Step]:
+    """All steps of one operation that commits."""
+    actions = [action for action in Action if action is not Action.GIVE_UP]
+    return [Step(writer, operation), *(Step(writer, action) for action in actions)]
+
+
+def trace_logs() -> Iterator[bytes]:
+    """Document 01's example, the empty log, single records, and P5 to P10."""
+    yield bytes.fromhex("00 01 01 AC 02 02 00 03 00 04 00 05 00 06 00 07 00 08")
+    yield b""
+    yield encode([Step(7, Put(31, MAX_NUMBER, 7))])
+    yield encode([Step(0, Action.GIVE_UP)])
+
+    def put(writer: int, key: int, value: int, group: int) -> list[Step]:
+        return operation_steps(writer, Put(key, value, group))
+
+    one, two = put(0, 0, 10, 0), put(1, 1, 20, 0)
+    yield encode([*one[:3], *two[:3], *one[3:], *two[3:]])  # P5
+    yield encode([*one[:3], *two[:3], *two[3:], *one[3:]])  # P5, commits swapped
+    one, two = put(0, 1, 10, 0), put(1, 1, 20, 1)
+    yield encode([*one[:2], *two[:2], *one[2:], *two[2:]])  # P6
+    one, two, three = (put(writer, 5, 10 + writer, 4) for writer in range(3))
+    yield encode([*one, two[0], *three, *two[1:]])  # P7
+    yield encode([*one, *two[:3], *three, *two[3:]])  # P7, 2 reads before 3
+    yield encode([Step(0, Remove(9)), Step(0, Action.LOOK_UP)])  # P8
+    yield encode([Step(8, Put(0, 0, 0)), Step(8, Put(32, 0, 0))])  # P9
+    one, two = put(0, 1, 10, 1), put(0, 2, 20, 2)
+    three, four = put(3, 1, 11, 1), put(4, 2, 21, 2)
+    overtaken = [*one, *two, three[0], *four]
+    yield encode(overtaken)  # P10
+    yield encode([*overtaken, *three[1:]])  # P10
+    starts = [(Step(0, Put(0, 0, 0)), Step(0, Action.GIVE_UP))] * 65
+    yield encode(step for pair in starts for step in pair)
+
+
+def remove_logs() -> Iterator[bytes]:
+    """A remove keeps the index entry, also for a put with an earlier timestamp."""
+    first = operation_steps(0, Put(1, 10, 1))
+    early = operation_steps(1, Put(1, 11, 2))
+    remove = operation_steps(2, Remove(1))
+    again = operation_steps(3, Put(1, 12, 3))
+    yield encode([*first, *remove, *again])
+    yield encode([*first, early[0], *remove, *early[1:]])
+    yield encode([early[0], *first, *remove, *early[1:]])
+    yield encode([*first, *remove, *remove, *again[:-1]])
+
+
+def lock_logs() -> Iterator[bytes]:
+    """The lock is freed by a commit, by giving up and by a failed check."""
+    one = operation_steps(0, Put(1, 10, 1))
+    two = operation_steps(1, Put(2, 20, 2))
+    conflicting = operation_steps(1, Put(2, 19, 1))
+    give_up = [Step(0, Action.GIVE_UP)]
+    for held, freed in (
+        (one[:5], one[5:]),
+        (one[:5], give_up),
+        (one[:6], give_up),
+        ([*one[:3], *conflicting, *one[3:5]], one[5:]),
+    ):
+        yield encode([*held, *two[:5], *freed, *two[4:]])
+
+
+def refusal_logs() -> Iterator[bytes]:
+    """The first refusal that applies is given: 10, 12, 13, 14, 15, 16."""
+    starts = [
+        Step(writer, operation)
+        for writer in (0, 1, 8, MAX_NUMBER)
+        for operation in (
+            Put(32, 5, 8),
+            Put(31, 5, 8),
+            Put(MAX_NUMBER, 5, 7),
+            Remove(32),
+            Remove(MAX_NUMBER),
+        )
+    ]
+    actions = [Step(writer, action) for writer in (1, 2, 8) for action in Action]
+    locked = operation_steps(0, Put(1, 10, 1))[:5]
+    waiting = operation_steps(1, Put(2, 20, 2))[:5]
+    issued = [Step(2, Remove(31)), Step(2, Action.GIVE_UP)] * MAX_TIMESTAMP
+    last = [Step(0, Put(31, 5, 7)), Step(2, Put(31, 5, 7)), Step(2, Remove(31))]
+    yield encode([*starts, *actions])
+    yield encode([*locked, *starts, *actions, *last])
+    yield encode([*locked, *waiting, *starts, *actions, *last])
+    yield encode([*locked, *waiting, *issued, *starts, *actions, *last])
+
+
+def walk_logs(draw: Draw) -> Iterator[bytes]:
+    """Walks of 50 to 400 steps by eight writers."""
+    for profile in PROFILES:
+        for length in (50, 150, 400):
+            yield encode(walk(draw, profile, length))
+
+
+def exhausting_logs(draw: Draw) -> Iterator[bytes]:
+    """Walks that use up the timestamps, and 40 steps more."""
+
+    def exhausted(table: Table) -> bool:
+        return table.last_timestamp == MAX_TIMESTAMP
+
+    for profile in (ALL_KEYS, SHORT_LIVED, REMOVES, NEW_KEYS, DISORDER, WILD):
+        table = Table()
+        steps = list(walk(draw, profile, 2000, exhausted, table))
+        yield encode([*steps, *walk(draw, profile, 40, table=table)])
+
+
+def prefix_logs(draw: Draw) -> Iterator[bytes]:
+    """One walk, ended after ever more of its steps."""
+    steps = list(walk(draw, replace(ALL_KEYS, keys=range(6)), 240))
+    for length in range(30, 241, 30):
+        yield encode(steps[:length])
+
+
+def stop_logs(draw: Draw) -> Iterator[bytes]:
+    """Each stop in each number of a record, behind some good records."""
+    numbers = (300, 1, 16_384, MAX_NUMBER, 128)
+    record = [encode_number(number) for number in numbers]
+    whole = b"".join(record)
+    good = [encode(walk(draw, ALL_KEYS, 10 + draw.below(20))) for _ in range(5)]
+
+    for length in range(1, len(whole)):
+        yield good[0] + whole[:length]
+
+    def damaged(place: int, number: str) -> bytes:
+        behind = b"".join(record[place + 1 :])
+        return good[place] + b"".join(record[:place]) + bytes.fromhex(number) + behind
+
+    longer = ("80 00", "FF 00", "80 80 00", "81 80 80 00", "80 80 80 80 00")
+    large = (
+        "FF FF FF FF 10",
+        "80 80 80 80 80 00",
+        "FF FF FF FF FF 0F",
+        "FF FF FF FF 7F",
+    )
+    for place in range(len(record)):
+        yield damaged(place, longer[place])
+        yield damaged(place, longer[place - 2])
+        yield damaged(place, large[place % len(large)])
+    for number in ("00", "0A", "FF FF FF FF 0F", "83 00", "81 80 00", "83 80 80 80 10"):
+        yield damaged(1, number)
+    # The first fault in reading order counts, and the kind before its numbers.
+    yield good[1] + bytes.fromhex("00 00")
+    yield good[1] + bytes.fromhex("00 0A 80 00")
+    yield good[1] + bytes.fromhex("80 00 00")
+    yield good[1] + bytes.fromhex("FF FF FF FF")
+    yield good[1] + bytes.fromhex("FF FF FF FF 80")
+    yield good[1] + bytes.fromhex("05 01 80 80 80 80")
+    yield good[1] + bytes.fromhex("05 02")
+    yield bytes.fromhex("80")
+    yield bytes.fromhex("00")
+    yield bytes.fromhex("00 00")
+
+
+def noise_logs(draw: Draw) -> Iterator[bytes]:
+    """Random bytes, and random small bytes, which go on for longer."""
+    for bound in (256, 256, 140, 64, 10, 10):
+        yield bytes(draw.below(bound) for _ in range(100 + draw.below(300)))
+
+
+def damaged_logs(draw: Draw) -> Iterator[bytes]:
+    """Walks with a byte changed, inserted or removed, or cut anywhere."""
+    for damage in ("change", "insert", "remove", "cut") * 4:
+        log = encode(walk(draw, draw.among(PROFILES), 150 + draw.below(100)))
+        place = len(log) // 4 + draw.below(3 * len(log) // 4)
+        head, tail = log[:place], log[place:]
+        match damage:
+            case "change":
+                yield head + bytes([tail[0] ^ 1 << draw.below(8)]) + tail[1:]
+            case "insert":
+                yield head + bytes([draw.below(256)]) + tail
+            case "remove":
+                yield head + tail[1:]
+            case "cut":
+                yield head
+
+
+def size_logs(draw: Draw) -> Iterator[bytes]:
+    """Logs of 32,768 bytes, one with as many records as fit, and a longer one."""
+    actions = list(Action)
+    shortest = (
+        Step(draw.below(WRITERS), draw.among(actions)) for _ in range(MAX_INPUT // 2)
+    )
+    yield encode(shortest)
+    log = encode(walk(draw, ALL_KEYS, 800))
+    longest = encode_step(Step(MAX_NUMBER, Put(MAX_NUMBER, MAX_NUMBER, MAX_NUMBER)))
+    log += longest * ((MAX_INPUT - 10 - len(log)) // len(longest))
+    if len(log) % 2 == 1:
+        log += encode_step(Step(0, Remove(32)))
+    log += encode_step(Step(0, Action.GIVE_UP)) * ((MAX_INPUT - len(log)) // 2)
+    yield log
+    yield log + b"\x00"
+
+
+def families() -> list[tuple[str, list[bytes]]]:
+    draw = Draw(SEED)
+    return [
+        ("document 01's example, empty log, one record, P5 to P10", list(trace_logs())),
+        ("puts after removes", list(remove_logs())),
+        ("the lock freed", list(lock_logs())),
+        ("refusals", list(refusal_logs())),
+        ("walks of 50 to 400 steps", list(walk_logs(draw))),
+        ("walks that use up the timestamps", list(exhausting_logs(draw))),
+        ("one walk, ended at ever later steps", list(prefix_logs(draw))),
+        ("each stop", list(stop_logs(draw))),
+        ("noise", list(noise_logs(draw))),
+        ("walks damaged by a byte, or cut", list(damaged_logs(draw))),
+        ("32,768 bytes, and 32,769", list(size_logs(draw))),
+    ]
+
+
+# --- Document 01's claims ----------------------------------------------------
+
+
+def require(claim: bool, message: str) -> None:
+    if not claim:
+        raise AssertionError(message)
+
+
+class Checked:
+    """A table and its history, held to demand 3 while steps are taken."""
+
+    def __init__(self) -> None:
+        self.table = Table()
+        self.history = History()
+        self.answers: list[Answer] = []
+        self.stable: dict[int, list[Row]] = {}
+
+    def step(self, step: Step, timestamps: Sequence[int]) -> None:
+        """Take a step and check the listings at these timestamps."""
+        answer = self.table.step(step)
+        self.answers.append(answer)
+        self.history.record(step, answer, self.table)
+        if answer < Answer.NO_SUCH_WRITER:
+            for timestamp in timestamps:
+                self.check_rows(timestamp)
+            self.note_stable()
+        if answer == Answer.COMMITTED:
+            self.check_groups()
+
+    def check_rows(self, timestamp: int) -> None:
+        """The listing is the history's, and a stable one is what it was."""
+        rows = self.table.snapshot(timestamp)
+        require(rows == self.history.rows(timestamp), f"rows at {timestamp}")
+        require(rows == self.stable.get(timestamp, rows), f"stability at {timestamp}")
+
+    def note_stable(self) -> None:
+        for timestamp in range(1, self.history.last_timestamp + 1):
+            if timestamp not in self.stable and self.history.is_stable(timestamp):
+                self.stable[timestamp] = self.table.snapshot(timestamp)
+
+    def check_groups(self) -> None:
+        """No key stands in the committed slices of two groups."""
+        group_of: dict[int, int] = {}
+        for timestamp, (_, group) in self.history.committed.items():
+            for key in self.table.slices[group, timestamp]:
+                require(group_of.setdefault(key, group) == group, f"two groups: {key}")
+
+    def check_everywhere(self) -> None:
+        """Check the listing at every timestamp, and the scan with its room."""
+        for timestamp in (*range(self.history.last_timestamp + 2), 2**64 - 1):
+            self.check_rows(timestamp)
+            rows = self.history.rows(timestamp)
+            numbers = [number for row in rows for number in row]
+            buffer = [0] * len(numbers)
+            result = self.table.scan(timestamp, buffer)
+            require(result == (Answer.TAKEN, len(rows)), f"row count at {timestamp}")
+            require(buffer == numbers, f"scan at {timestamp}")
+
+    def check_extension(self, draw: Draw) -> None:
+        """Check a copy on which random steps follow."""
+        extension = copy.deepcopy(self)
+        profile = draw.among(PROFILES)
+        for step in walk(draw, profile, 60, table=copy.deepcopy(self.table)):
+            extension.step(step, [])
+        extension.check_everywhere()
+
+
+def check(log: bytes, draw: Draw) -> tuple[list[Answer], Stop]:
+    """Run a log against the claims; return its answers and stop."""
+    run = Checked()
+    steps: list[Step] = []
+    place = 0
+    stop = Stop.USED_UP
+    extend = 6 / (1 + len(log))
+    while place < len(log):
+        try:
+            step, place = read_record(log, place)
+        except Malformed as malformed:
+            stop = malformed.stop
+            break
+        steps.append(step)
+        last = run.history.last_timestamp
+        run.step(step, [0, draw.below(last + 1), last, last + 1, last + 2])
+        if draw.chance(extend):
+            run.check_extension(draw)
+    run.check_everywhere()
+    require(encode(steps) == log[:place], "coded again")
+    return run.answers, stop
+
+
+# --- The files ---------------------------------------------------------------
+
+ANSWERS = {
+    Answer.TAKEN: "step taken",
+    Answer.COMMITTED: "committed",
+    Answer.KEY_NOT_INDEXED: "key not indexed",
+    Answer.TOO_LATE: "too late for the group",
+    Answer.KEY_IN_OTHER_GROUP: "key belongs to another group",
+    Answer.GROUP_CHANGED: "group changed since the read",
+    Answer.GAVE_UP: "gave up",
+    Answer.NO_SUCH_WRITER: "no such writer",
+    Answer.NO_SUCH_KEY: "no such key",
+    Answer.NO_SUCH_GROUP: "no such group",
+    Answer.PHASE_DOES_NOT_FIT: "phase doesn't fit",
+    Answer.TIMESTAMPS_USED_UP: "64 timestamps issued",
+    Answer.LOCK_HELD: "lock held by another",
+    Answer.OUT_OF_RANGE: "table value out of range",
+}
+STOPS = {
+    Stop.USED_UP: "input used up",
+    Stop.CUT_SHORT: "record cut short",
+    Stop.LONGER_THAN_NEEDED: "number longer than needed",
+    Stop.TOO_LARGE: "number too large",
+    Stop.NO_SUCH_KIND: "kind not 1 to 9",
+    Stop.NO_PLACE: "no place for the next answer",
+}
+IMPOSSIBLE = {
+    Answer.OUT_OF_RANGE: "cannot occur: the program's table starts fresh",
+    Stop.NO_PLACE: "cannot occur: the program's buffer has room for every answer",
+}
+
+
+TOO_LONG = "too long"
+
+
+def histogram_rows(meanings: dict[int, str], counts: Counter) -> Iterator[str]:
+    """Table rows; fails if a number is missing, or an impossible one is there."""
+    for number, meaning in meanings.items():
+        occurs = counts[number] > 0
+        require(occurs != (number in IMPOSSIBLE), f"{number!r}: {counts[number]}")
+        count = IMPOSSIBLE.get(number, counts[number])
+        yield f"| {number:d} | {meaning} | {count} |"
+
+
+def main(stdin: Path, stdout: Path, histogram: Path) -> None:
+    draw = Draw(SEED + 1)
+    packed, printed = b"", ""
+    answers, stops = Counter(), Counter()
+    ranges = []
+    number = 0
+    for family, logs in families():
+        ranges.append(f"| {number} to {number + len(logs) - 1} | {family} |")
+        for log in logs:
+            text = program(log)
+            packed += struct.pack("<I", len(log)) + log
+            printed += f"log {number}\n{text}"
+            number += 1
+            if len(log) > MAX_INPUT:
+                stops[TOO_LONG] += 1
+                continue
+            log_answers, stop = check(log, draw)
+            lines = [*(f"{answer:d}" for answer in log_answers), f"stop {stop:d} at "]
+            require(text.startswith("\n".join(lines)), f"text of log {number}")
+            answers.update(log_answers)
+            stops[stop] += 1
+    report = [
+        "| Answer | Meaning | Count |",
+        "|---|---|---|",
+        *histogram_rows(ANSWERS, answers),
+        "",
+        "| Stop | Meaning | Count |",
+        "|---|---|---|",
+        *histogram_rows(STOPS, stops),
+        f"| none | only `too long` is printed | {stops[TOO_LONG]} |",
+        "",
+        "| Logs | What they are |",
+        "|---|---|",
+        *ranges,
+    ]
+    stdin.write_bytes(packed)
+    stdout.write_text(printed, encoding="ascii", newline="\n")
+    histogram.write_text("\n".join(report) + "\n", encoding="ascii", newline="\n")
+
+
+if __name__ == "__main__":
+    if len(sys.argv) != 4:
+        sys.exit(__doc__)
+    main(*map(Path, sys.argv[1:]))

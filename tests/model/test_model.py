@@ -1,0 +1,712 @@
+#!/usr/bin/env python3
+"""Tests of the reference model against document 01's traces and source 002.
+
+    python3 tests/model/test_model.py
+"""
+
+from __future__ import annotations
+
+import copy
+import unittest
+from collections.abc import Sequence
+
+from make_corpus import PROFILES, Draw, walk
+from table_model import (
+    MAX_INPUT,
+    MAX_NUMBER,
+    Action,
+    Answer,
+    Committed,
+    History,
+    Instant,
+    LogWrite,
+    Malformed,
+    Operation,
+    Put,
+    Remove,
+    Row,
+    Run,
+    State,
+    Step,
+    Stop,
+    Table,
+    Writer,
+    coded_size,
+    encode,
+    encode_number,
+    encode_step,
+    program,
+    read_number,
+    read_record,
+    run_log,
+    run_steps,
+    write_log,
+)
+
+LOOK_UP, READ, WRITE, INDEX, CHECK, COMMIT, GIVE_UP = Action
+EXAMPLE = bytes.fromhex("00 01 01 AC 02 02 00 03 00 04 00 05 00 06 00 07 00 08")
+REQUESTED = Instant(State.REQUESTED)
+NEVER_ISSUED = 2**64 - 1
+
+
+def between(writer: int, first: Action, last: Action) -> list[Step]:
+    """A writer's steps from one to another."""
+    return [Step(writer, action) for action in Action if first <= action <= last]
+
+
+def through(
+    writer: int, last: Action, operation: Operation | None = None
+) -> list[Step]:
+    """A writer's steps up to one, from the operation's start or, without an
+    operation, from the look up.
+    """
+    start = [] if operation is None else [Step(writer, operation)]
+    return start + between(writer, LOOK_UP, last)
+
+
+def whole(writer: int, operation: Operation) -> list[Step]:
+    """All steps of an operation that commits."""
+    return through(writer, COMMIT, operation)
+
+
+class TableTest(unittest.TestCase):
+    """A fresh table and the steps taken on it."""
+
+    def setUp(self) -> None:
+        self.table = Table()
+
+    def take(self, *steps: Step) -> list[int]:
+        return [int(self.table.step(step)) for step in steps]
+
+    def assert_last(self, answer: int, steps: Sequence[Step]) -> None:
+        """The last of the steps gets this answer, those before it 0 or 1."""
+        *before, last = self.take(*steps)
+        self.assertLessEqual(set(before), {Answer.TAKEN, Answer.COMMITTED})
+        self.assertEqual(last, answer)
+
+    def assert_rows(self, timestamp: int, *rows: tuple[int, int, int]) -> None:
+        """The scan, in a buffer just large enough, lists exactly these rows."""
+        buffer = [0] * (3 * len(rows))
+        result = self.table.scan(timestamp, buffer)
+        self.assertEqual(result, (Answer.TAKEN, len(rows)))
+        self.assertEqual(buffer, [number for row in rows for number in row])
+
+
+class TracesOfTheLog(unittest.TestCase):
+    """Document 01's traces P1 to P4, the empty log and the example."""
+
+    def test_p1_p2_p3(self) -> None:
+        for number, coded in (
+            (0, "00"),
+            (127, "7F"),
+            (128, "80 01"),
+            (16_383, "FF 7F"),
+            (16_384, "80 80 01"),
+            (MAX_NUMBER, "FF FF FF FF 0F"),
+        ):
+            with self.subTest(number=number):
+                log = bytes.fromhex(coded)
+                self.assertEqual(encode_number(number), log)
+                self.assertEqual(read_number(log, 0), (number, len(log)))
+                self.assertEqual(coded_size(number), len(log))
+
+    def test_p4(self) -> None:
+        for coded, stop in (("80 00", 21), ("FF FF FF FF 10", 22), ("80", 20)):
+            with self.subTest(coded=coded), self.assertRaises(Malformed) as raised:
+                read_number(bytes.fromhex(coded), 0)
+            self.assertEqual(raised.exception.stop, stop)
+
+    def test_empty_log(self) -> None:
+        self.assertEqual(program(b""), "stop 0 at 0\n")
+
+    def test_example(self) -> None:
+        printed = "0\n0\n0\n0\n0\n0\n1\nstop 0 at 18\n1 300 2\n"
+        self.assertEqual(program(EXAMPLE), printed)
+
+
+class TracesOfTheTable(TableTest):
+    """Document 01's traces P5 to P10, and those without a letter."""
+
+    def test_p5(self) -> None:
+        self.take(*through(0, READ, Put(0, 10, 0)), *through(1, READ, Put(1, 20, 0)))
+        self.assert_last(1, between(0, WRITE, COMMIT))
+        self.assert_last(5, between(1, WRITE, CHECK))
+        self.assert_rows(2, (0, 10, 0))
+
+    def test_p5_with_the_commits_swapped(self) -> None:
+        self.take(*through(0, READ, Put(0, 10, 0)), *through(1, READ, Put(1, 20, 0)))
+        self.assert_last(1, between(1, WRITE, COMMIT))
+        self.assert_last(5, between(0, WRITE, CHECK))
+        self.assert_rows(2, (1, 20, 0))
+
+    def test_p6(self) -> None:
+        self.take(*through(0, LOOK_UP, Put(1, 10, 0)))
+        self.take(*through(1, LOOK_UP, Put(1, 20, 1)))
+        self.assert_last(1, between(0, READ, COMMIT))
+        self.assert_last(4, between(1, READ, INDEX))
+        self.assert_rows(2, (1, 10, 0))
+        self.assertIsNone(self.table.lock)
+
+    def test_p7(self) -> None:
+        self.assert_last(1, whole(0, Put(5, 10, 4)))
+        self.take(Step(1, Put(5, 11, 4)))
+        self.assert_last(1, whole(2, Put(5, 12, 4)))
+        self.assert_last(3, through(1, READ))
+        self.assertEqual(self.table.instant(2), REQUESTED)
+
+    def test_p8(self) -> None:
+        self.assert_last(2, [Step(0, Remove(9)), Step(0, LOOK_UP)])
+
+    def test_p9(self) -> None:
+        answers = self.take(Step(8, Put(0, 0, 0)), Step(8, Put(32, 0, 0)))
+        self.assertEqual(answers, [10, 10])
+
+    def test_p10(self) -> None:
+        self.take(*whole(0, Put(1, 10, 1)), *whole(0, Put(2, 20, 2)))
+        self.take(Step(0, Put(1, 11, 1)))
+        self.assert_last(1, whole(1, Put(2, 21, 2)))
+        self.assert_rows(3, (1, 10, 1), (2, 20, 2))
+        self.assert_rows(4, (1, 10, 1), (2, 21, 2))
+        self.assert_last(1, through(0, COMMIT))
+        self.assert_rows(3, (1, 11, 1), (2, 20, 2))
+
+    def test_64_timestamps(self) -> None:
+        for _ in range(63):
+            self.take(Step(0, Put(0, 0, 0)), Step(0, GIVE_UP))
+        self.assertEqual(self.take(Step(0, Put(0, 0, 0))), [0])
+        self.assertEqual(self.take(Step(1, Put(0, 0, 0))), [15])
+        self.assertEqual(self.table.last_timestamp, 64)
+
+    def test_room_of_a_scan(self) -> None:
+        self.take(*whole(0, Put(1, 10, 1)), *whole(0, Put(2, 20, 2)))
+        buffer = [9] * 5
+        self.assertEqual(self.table.scan(2, buffer), (31, 0))
+        self.assertEqual(buffer, [9] * 5)
+        buffer = [9] * 6
+        self.assertEqual(self.table.scan(2, buffer), (0, 2))
+        self.assertEqual(buffer, [1, 10, 1, 2, 20, 2])
+
+    def test_numbers_behind_the_rows_stay(self) -> None:
+        self.take(*whole(0, Put(1, 10, 1)))
+        buffer = [9] * 5
+        self.assertEqual(self.table.scan(1, buffer), (0, 1))
+        self.assertEqual(buffer, [1, 10, 1, 9, 9])
+
+
+class Stories(TableTest):
+    """Source 002's scenarios in document 01's configuration.
+
+    Writer n carries 002's writer wn, or operation n. Key 1 is k1 and key 2 is
+    k2; the values 10, 11, 12 stand for k1's A, B, C and 20, 21 for k2's X, Y.
+    """
+
+    def test_cases_1_and_2(self) -> None:
+        """Two keys in one group, both writers read first: w2's check fails."""
+        self.take(*through(1, READ, Put(1, 10, 1)), *through(2, READ, Put(2, 20, 1)))
+        self.assertEqual(self.table.writers[2].base, 0)
+        self.assert_last(1, between(1, WRITE, COMMIT))
+        self.assert_last(5, between(2, WRITE, CHECK))
+        self.assert_rows(2, (1, 10, 1))
+        self.assertEqual(self.take(Step(2, COMMIT)), [14])
+
+    def test_case_2_with_one_key(self) -> None:
+        self.take(*through(1, READ, Put(1, 10, 1)), *through(2, READ, Put(1, 11, 1)))
+        self.assert_last(1, between(1, WRITE, COMMIT))
+        self.assert_last(5, between(2, WRITE, CHECK))
+        self.assert_rows(2, (1, 10, 1))
+
+    def test_case_3(self) -> None:
+        """One key in two groups: w2's index step finds w1's mapping."""
+        self.take(*through(1, LOOK_UP, Put(1, 10, 1)))
+        self.take(*through(2, LOOK_UP, Put(1, 10, 2)))
+        self.assert_last(1, between(1, READ, COMMIT))
+        self.assert_last(4, between(2, READ, INDEX))
+        self.assert_rows(2, (1, 10, 1))
+        self.assertEqual(self.table.index, {1: 1})
+
+    def test_out_of_order_same_key(self) -> None:
+        """Operation 2 resumes after 3 and aborts at its read."""
+        self.assert_last(1, whole(1, Put(1, 10, 1)))
+        self.take(Step(2, Put(1, 11, 1)), Step(3, Put(1, 12, 1)))
+        self.assert_last(1, through(3, COMMIT))
+        self.assert_last(3, through(2, READ))
+        self.assert_rows(1, (1, 10, 1))
+        self.assert_rows(2, (1, 10, 1))
+        self.assert_rows(3, (1, 12, 1))
+
+    def test_out_of_order_same_key_interleaved(self) -> None:
+        """Operation 2 reads before 3 completes; its check fails."""
+        self.assert_last(1, whole(1, Put(1, 10, 1)))
+        self.take(Step(2, Put(1, 11, 1)), Step(3, Put(1, 12, 1)))
+        self.assert_last(0, through(2, READ))
+        self.assert_last(1, through(3, COMMIT))
+        self.assert_last(5, between(2, WRITE, CHECK))
+        self.assert_rows(2, (1, 10, 1))
+        self.assert_rows(3, (1, 12, 1))
+
+    def test_out_of_order_two_groups(self) -> None:
+        """A reader at 3 and at 4 sees 002's listings one after the other."""
+        at_3, at_4 = [self.table.snapshot(3)], [self.table.snapshot(4)]
+        for steps in (
+            whole(1, Put(1, 10, 1)),
+            whole(2, Put(2, 20, 2)),
+            [Step(3, Put(1, 11, 1)), Step(4, Put(2, 21, 2))],
+            through(4, COMMIT),
+            through(3, COMMIT),
+        ):
+            self.take(*steps)
+            at_3.append(self.table.snapshot(3))
+            at_4.append(self.table.snapshot(4))
+        a, b, x, y = (1, 10, 1), (1, 11, 1), (2, 20, 2), (2, 21, 2)
+        self.assertEqual(at_3, [[], [a], [a, x], [a, x], [a, x], [b, x]])
+        self.assertEqual(at_4, [[], [a], [a, x], [a, x], [a, y], [b, y]])
+
+
+class Walk(TableTest):
+    """Document 01's "A writer's walk", where the traces say nothing."""
+
+    def test_instants(self) -> None:
+        self.assertEqual(self.table.instant(1), Instant(State.NONE))
+        self.take(*through(0, LOOK_UP, Put(1, 10, 3)))
+        self.assertEqual(self.table.instant(1), REQUESTED)
+        self.take(Step(0, READ))
+        self.assertEqual(self.table.instant(1), Instant(State.INFLIGHT, 3))
+        self.take(*between(0, WRITE, CHECK))
+        self.assertEqual(self.table.instant(1), Instant(State.INFLIGHT, 3))
+        self.assertEqual(self.take(Step(0, COMMIT)), [1])
+        self.assertEqual(self.table.instant(1), Instant(State.COMPLETED, 3))
+        for timestamp in (0, 2, NEVER_ISSUED):
+            self.assertEqual(self.table.instant(timestamp), Instant(State.NONE))
+
+    def test_a_slice_is_not_seen_before_the_commit(self) -> None:
+        self.take(*through(0, CHECK, Put(1, 10, 3)))
+        self.assert_rows(1)
+        self.take(Step(0, COMMIT))
+        self.assert_rows(1, (1, 10, 3))
+        self.assert_rows(0)
+        self.assert_rows(NEVER_ISSUED, (1, 10, 3))
+
+    def test_an_indexed_key_keeps_its_group(self) -> None:
+        self.take(*whole(0, Put(1, 10, 3)), *whole(0, Put(1, 11, 4)))
+        self.assert_rows(2, (1, 11, 3))
+        self.assertEqual(self.table.index, {1: 3})
+
+    def test_a_slice_keeps_the_base_slices_rows(self) -> None:
+        self.take(*whole(0, Put(1, 10, 3)), *whole(1, Put(2, 20, 3)))
+        self.take(*whole(2, Remove(1)))
+        self.assert_rows(1, (1, 10, 3))
+        self.assert_rows(2, (1, 10, 3), (2, 20, 3))
+        self.assert_rows(3, (2, 20, 3))
+
+    def test_rows_stand_by_rising_key(self) -> None:
+        self.take(*whole(0, Put(9, 1, 0)), *whole(0, Put(4, 2, 7)))
+        self.take(*whole(0, Put(6, 3, 0)))
+        self.assert_rows(3, (4, 2, 7), (6, 3, 0), (9, 1, 0))
+
+    def test_a_remove_keeps_the_index_entry(self) -> None:
+        self.take(*whole(0, Put(1, 10, 3)))
+        self.take(Step(1, Put(1, 11, 4)))
+        self.assert_last(1, whole(0, Remove(1)))
+        self.assert_last(3, through(1, READ))
+        self.assert_last(1, whole(1, Put(1, 12, 5)))
+        self.assert_rows(4, (1, 12, 3))
+
+    def test_an_ended_operation_keeps_the_index_entry(self) -> None:
+        self.take(*through(0, INDEX, Put(1, 10, 3)), Step(0, GIVE_UP))
+        self.assert_last(1, whole(1, Put(1, 11, 4)))
+        self.assert_rows(2, (1, 11, 3))
+
+    def test_a_remove_of_an_indexed_key_without_a_row_commits(self) -> None:
+        self.take(*through(0, INDEX, Put(1, 10, 3)), Step(0, GIVE_UP))
+        self.assert_last(1, whole(1, Remove(1)))
+        self.assert_rows(2)
+
+    def test_other_groups_do_not_conflict(self) -> None:
+        self.take(*through(0, READ, Put(1, 10, 3)))
+        self.take(*whole(1, Put(2, 20, 4)))
+        self.assert_last(1, between(0, WRITE, COMMIT))
+
+    def test_uncommitted_instants_do_not_conflict(self) -> None:
+        self.take(*through(0, LOOK_UP, Put(1, 10, 3)))
+        self.take(*through(1, WRITE, Put(2, 20, 3)))
+        self.assert_last(1, between(0, READ, COMMIT))
+
+    def test_the_lock_is_held_from_index_to_end(self) -> None:
+        for end in ([Step(0, CHECK), Step(0, COMMIT)], [Step(0, GIVE_UP)]):
+            with self.subTest(end=end):
+                self.table = Table()
+                self.take(*through(0, INDEX, Put(1, 10, 3)))
+                self.take(*through(1, WRITE, Put(2, 20, 4)))
+                self.assertEqual(self.take(Step(1, INDEX)), [16])
+                self.take(*end)
+                self.assert_last(1, between(1, INDEX, COMMIT))
+
+    def test_a_failed_check_frees_the_lock(self) -> None:
+        self.take(*through(0, READ, Put(1, 10, 3)), *whole(1, Put(2, 20, 3)))
+        self.assert_last(5, between(0, WRITE, CHECK))
+        self.assert_last(1, whole(1, Put(2, 21, 3)))
+
+    def test_an_end_elsewhere_leaves_the_lock(self) -> None:
+        self.take(*through(0, INDEX, Put(1, 10, 3)))
+        self.take(Step(1, Put(2, 20, 4)), Step(1, GIVE_UP))
+        self.assertEqual(self.table.lock, 0)
+
+    def test_give_up_fits_phases_1_to_6(self) -> None:
+        steps = whole(0, Put(1, 10, 3))
+        for taken in range(8):
+            with self.subTest(taken=taken):
+                self.table = Table()
+                self.take(*steps[:taken])
+                answer = 6 if 1 <= taken <= 6 else 14
+                self.assertEqual(self.take(Step(0, GIVE_UP)), [answer])
+                self.assertEqual(self.table.writers[0], Writer())
+
+    def test_a_step_fits_one_phase(self) -> None:
+        steps = whole(0, Put(1, 10, 3))
+        for taken in range(len(steps)):
+            for other in [*steps, Step(0, Remove(1))]:
+                fits = other == steps[taken] or taken == 0 and other.starts
+                with self.subTest(taken=taken, other=other):
+                    self.table = Table()
+                    self.take(*steps[:taken])
+                    self.assertEqual(self.take(other) == [14], not fits)
+
+
+class Refusals(TableTest):
+    """Document 01's "Answer numbers" from 10 on."""
+
+    def test_order(self) -> None:
+        for operation, ready, unknown in (
+            (Put(32, 0, 8), 12, 10),
+            (Put(31, 0, 8), 13, 10),
+            (Put(32, 0, 7), 12, 10),
+            (Remove(MAX_NUMBER), 12, 10),
+            (Put(31, MAX_NUMBER, 7), 0, 10),
+            (Put(31, MAX_NUMBER, 7), 14, 10),
+            (Put(32, 0, 8), 12, 10),
+            (Put(0, 0, 8), 13, 10),
+        ):
+            with self.subTest(operation=operation):
+                self.assertEqual(self.take(Step(0, operation)), [ready])
+                self.assertEqual(self.take(Step(8, operation)), [unknown])
+        self.assertEqual(self.take(Step(MAX_NUMBER, GIVE_UP)), [10])
+        self.assertEqual(self.take(Step(7, Put(0, 0, 0))), [0])
+
+    def test_order_with_all_timestamps_issued(self) -> None:
+        for _ in range(63):
+            self.take(Step(0, Put(0, 0, 0)), Step(0, GIVE_UP))
+        self.take(Step(1, Remove(0)))
+        for step, answer in (
+            (Step(0, Put(32, 0, 0)), 12),
+            (Step(0, Put(0, 0, 8)), 13),
+            (Step(1, Put(0, 0, 0)), 14),
+            (Step(0, Put(0, 0, 0)), 15),
+            (Step(0, Remove(0)), 15),
+            (Step(1, LOOK_UP), 2),
+        ):
+            with self.subTest(step=step):
+                self.assertEqual(self.take(step), [answer])
+
+    def test_phase_before_lock(self) -> None:
+        self.take(*through(0, INDEX, Put(1, 10, 3)))
+        self.take(*through(1, READ, Put(2, 20, 4)))
+        self.assertEqual(self.take(Step(1, INDEX), Step(2, INDEX)), [14, 14])
+
+    def test_a_refused_step_changes_nothing(self) -> None:
+        refused = set()
+        for seed, profile in enumerate(PROFILES):
+            self.table = Table()
+            for step in walk(Draw(seed), profile, 100):
+                before = copy.deepcopy(self.table)
+                answer = self.table.step(step)
+                if answer >= Answer.NO_SUCH_WRITER:
+                    refused.add(int(answer))
+                    self.assertEqual(self.table, before)
+        self.assertLessEqual({10, 12, 13, 14, 16}, refused)
+
+
+class OutOfRange(TableTest):
+    """Answer 17, on tables not reached from a fresh one."""
+
+    def setUp(self) -> None:
+        super().setUp()
+        self.take(*whole(0, Put(1, 10, 3)), *through(1, INDEX, Put(2, 20, 4)))
+
+    def assert_out_of_range(self) -> None:
+        before = copy.deepcopy(self.table)
+        self.assertEqual(self.take(Step(8, Put(32, 0, 8))), [17])
+        self.assertEqual(self.table.point_read(32, 1), 17)
+        buffer = [9] * 99
+        self.assertEqual(self.table.scan(1, buffer), (17, 0))
+        self.assertEqual(buffer, [9] * 99)
+        self.assertEqual(self.table.instant(1), 17)
+        self.assertEqual(self.table, before)
+
+    def test_reached_table(self) -> None:
+        self.assertTrue(self.table.in_range())
+
+    def test_table(self) -> None:
+        for name, value in (
+            ("last_timestamp", 65),
+            ("last_timestamp", 1),
+            ("lock", 8),
+            ("index", {1: 8}),
+            ("index", {32: 0}),
+            ("timeline", {3: REQUESTED}),
+            ("timeline", {0: REQUESTED}),
+            ("timeline", {1: Instant(State.COMPLETED, 8)}),
+            ("slices", {(8, 1): {}}),
+            ("slices", {(0, 3): {}}),
+            ("slices", {(0, 1): {32: 0}}),
+            ("slices", {(0, 1): {0: MAX_NUMBER + 1}}),
+        ):
+            with self.subTest(name=name, value=value):
+                kept = getattr(self.table, name)
+                setattr(self.table, name, value)
+                self.assert_out_of_range()
+                setattr(self.table, name, kept)
+                self.assertTrue(self.table.in_range())
+
+    def test_writer(self) -> None:
+        for name, value in (
+            ("phase", 7),
+            ("timestamp", 3),
+            ("timestamp", 0),
+            ("base", 3),
+            ("group", 8),
+            ("operation", Remove(32)),
+            ("operation", Put(32, 0, 0)),
+            ("operation", Put(0, MAX_NUMBER + 1, 0)),
+            ("operation", Put(0, 0, 8)),
+        ):
+            with self.subTest(name=name, value=value):
+                writer = self.table.writers[1]
+                kept = getattr(writer, name)
+                setattr(writer, name, value)
+                self.assert_out_of_range()
+                setattr(writer, name, kept)
+                self.assertTrue(self.table.in_range())
+
+
+class Reading(TableTest):
+    """Document 01's "Reading at a timestamp"."""
+
+    def test_point_read(self) -> None:
+        self.take(*whole(0, Put(1, 10, 3)), *whole(0, Put(1, 11, 3)))
+        self.assertIsNone(self.table.point_read(1, 0))
+        self.assertEqual(self.table.point_read(1, 1), Row(1, 10, 3))
+        self.assertEqual(self.table.point_read(1, NEVER_ISSUED), Row(1, 11, 3))
+        self.assertIsNone(self.table.point_read(31, 2))
+        self.assertEqual(self.table.point_read(32, 2), Answer.NO_SUCH_KEY)
+
+    def test_one_key_in_two_groups(self) -> None:
+        """Not reached from a fresh table."""
+        self.table.last_timestamp = 2
+        self.table.timeline = {
+            1: Instant(State.COMPLETED, 6),
+            2: Instant(State.COMPLETED, 5),
+        }
+        self.table.slices = {(6, 1): {1: 10}, (5, 2): {1: 99, 2: 7}}
+        self.assert_rows(2, (1, 99, 5), (1, 10, 6), (2, 7, 5))
+        self.assertEqual(self.table.point_read(1, 2), Row(1, 99, 5))
+        self.assertEqual(self.table.point_read(1, 1), Row(1, 10, 6))
+
+    def test_completed_instant_without_a_slice(self) -> None:
+        """Not reached from a fresh table: no rows, for readers and as a base."""
+        self.take(*whole(0, Put(1, 10, 3)))
+        self.table.slices.clear()
+        self.assert_rows(1)
+        self.take(*whole(0, Put(2, 20, 3)))
+        self.assert_rows(2, (2, 20, 3))
+
+    def test_own_lock_does_not_refuse(self) -> None:
+        """Not reached from a fresh table."""
+        self.take(*through(0, WRITE, Put(1, 10, 3)))
+        self.table.lock = 0
+        self.assertEqual(self.take(Step(0, INDEX)), [0])
+
+
+class StepLog(unittest.TestCase):
+    """Document 01's "The step log"."""
+
+    STEPS = (
+        Step(0, Put(99, MAX_NUMBER, 128)),
+        Step(MAX_NUMBER, Remove(16_384)),
+        *(Step(300, action) for action in Action),
+    )
+
+    def test_read_back(self) -> None:
+        log = encode(self.STEPS)
+        place, steps = 0, []
+        while place < len(log):
+            step, place = read_record(log, place)
+            steps.append(step)
+        self.assertEqual(tuple(steps), self.STEPS)
+
+    def test_records(self) -> None:
+        self.assertEqual(encode_step(self.STEPS[0]).hex(), "000163ffffffff0f8001")
+        self.assertEqual(encode_step(self.STEPS[1]).hex(), "ffffffff0f02808001")
+        kinds = [encode_step(step) for step in self.STEPS[2:]]
+        self.assertEqual(kinds, [bytes([0xAC, 2, kind]) for kind in range(3, 10)])
+
+    def test_all_numbers_of_up_to_two_bytes(self) -> None:
+        """Each number has one form; every other pair of bytes is refused."""
+        read = {}
+        for first in range(256):
+            for log in (bytes([first]), *(bytes([first, b]) for b in range(256))):
+                try:
+                    number, size = read_number(log, 0)
+                except Malformed:
+                    continue
+                if size == len(log):
+                    self.assertNotIn(number, read)
+                    read[number] = log
+        self.assertEqual(read, {n: encode_number(n) for n in range(2**14)})
+
+    def test_refused_numbers(self) -> None:
+        for coded, stop in (
+            ("", 20),
+            ("80 80", 20),
+            ("FF FF FF FF", 20),
+            ("80 80 00", 21),
+            ("80 80 80 00", 21),
+            ("80 80 80 80 00", 21),
+            ("80 80 80 80 10", 22),
+            ("80 80 80 80 80", 22),
+            ("80 80 80 80 80 00", 22),
+            ("FF FF FF FF 8F", 22),
+        ):
+            with self.subTest(coded=coded), self.assertRaises(Malformed) as raised:
+                read_number(bytes.fromhex(coded), 0)
+            self.assertEqual(raised.exception.stop, stop)
+
+    def test_refused_records(self) -> None:
+        for coded, stop in (
+            ("00", 20),
+            ("00 00", 23),
+            ("00 0A", 23),
+            ("00 0A 80 00", 23),
+            ("00 FF FF FF FF 0F", 23),
+            ("00 83 00", 21),
+            ("00 83 80 80 80 10", 22),
+            ("80 00 00", 21),
+            ("00 01", 20),
+            ("00 01 01 01", 20),
+            ("00 01 80 00", 21),
+            ("00 01 01 80 00 00", 21),
+            ("00 01 01 01 80 00", 21),
+            ("00 02", 20),
+            ("00 02 FF FF FF FF 1F", 22),
+        ):
+            with self.subTest(coded=coded), self.assertRaises(Malformed) as raised:
+                read_record(bytes.fromhex(coded), 0)
+            self.assertEqual(raised.exception.stop, stop)
+
+    def test_writer(self) -> None:
+        steps = [Step(0, LOOK_UP), Step(1, Remove(2))]
+        buffer = bytearray(b"\xEE" * 8)
+        self.assertEqual(write_log(steps, buffer, 2), (LogWrite.WRITTEN, 5))
+        self.assertEqual(buffer.hex(" "), "ee ee 00 03 01 02 02 ee")
+        self.assertEqual(write_log(steps, buffer, 4), (LogWrite.NO_FIT, 0))
+        self.assertEqual(write_log(steps, buffer, 9), (LogWrite.PLACE_PAST_END, 0))
+        self.assertEqual(write_log([], buffer, 9), (LogWrite.PLACE_PAST_END, 0))
+        self.assertEqual(write_log([], buffer, 8), (LogWrite.WRITTEN, 0))
+        self.assertEqual(buffer.hex(" "), "ee ee 00 03 01 02 02 ee")
+        self.assertEqual(write_log(steps, buffer, 3), (LogWrite.WRITTEN, 5))
+        self.assertEqual(buffer.hex(" "), "ee ee 00 00 03 01 02 02")
+
+
+class Runs(unittest.TestCase):
+    """Document 01's runs and the program's text."""
+
+    def test_a_stopped_run_keeps_the_steps_before_the_stop(self) -> None:
+        table, expected = Table(), Table()
+        run = run_log(table, EXAMPLE + bytes.fromhex("63 02 05 00 0A"), 9)
+        self.assertEqual(run, Run(Stop.NO_SUCH_KIND, [0, 0, 0, 0, 0, 0, 1, 10], 21))
+        run_log(expected, EXAMPLE, 9)
+        self.assertEqual(table, expected)
+
+    def test_no_place_comes_after_used_up_and_before_the_record(self) -> None:
+        run = run_log(Table(), EXAMPLE, 7)
+        self.assertEqual(run, Run(Stop.USED_UP, [0, 0, 0, 0, 0, 0, 1], 18))
+        run = run_log(Table(), EXAMPLE, 3)
+        self.assertEqual(run, Run(Stop.NO_PLACE, [0, 0, 0], 10))
+        self.assertEqual(run_log(Table(), b"\x80", 0), Run(Stop.NO_PLACE, [], 0))
+        self.assertEqual(run_log(Table(), b"", 0), Run(Stop.USED_UP, [], 0))
+
+    def test_list_run(self) -> None:
+        steps = whole(0, Put(1, 300, 2))
+        run = run_steps(Table(), steps, 7)
+        self.assertEqual(run, Run(Stop.USED_UP, [0, 0, 0, 0, 0, 0, 1], 7))
+        self.assertEqual(run_steps(Table(), steps, 2), Run(Stop.NO_PLACE, [0, 0], 2))
+        self.assertEqual(run_steps(Table(), [], 0), Run(Stop.USED_UP, [], 0))
+
+    def test_input_limit(self) -> None:
+        step = encode_step(Step(0, GIVE_UP))
+        log = step * (MAX_INPUT // 2)
+        *answers, stop = program(log).splitlines()
+        self.assertEqual((len(answers), set(answers)), (16_384, {"14"}))
+        self.assertEqual(stop, "stop 0 at 32768")
+        self.assertEqual(program(log + b"\x00"), "too long\n")
+
+    def test_the_scan_is_at_the_last_issued_timestamp(self) -> None:
+        put, later = whole(0, Put(1, 10, 1)), Step(0, Put(1, 11, 1))
+        lines = program(encode([*put, later, *through(0, COMMIT)])).splitlines()
+        self.assertEqual(lines[-3:], ["1", "stop 0 at 34", "1 11 1"])
+
+
+class Histories(TableTest):
+    """Document 01's "The book behind demand 3"."""
+
+    def record(self, *steps: Step) -> History:
+        history = History()
+        for step in steps:
+            history.record(step, self.table.step(step), self.table)
+        return history
+
+    def test_commit(self) -> None:
+        put = Put(1, 10, 3)
+        history = self.record(*whole(0, put), Step(1, Remove(1)))
+        self.assertEqual(history.committed, {1: Committed(put, 3)})
+        self.assertEqual(history.open, {1: (2, Remove(1))})
+        self.assertEqual(history.last_timestamp, 2)
+
+    def test_the_group_is_that_of_the_commit(self) -> None:
+        history = self.record(*whole(0, Put(1, 10, 3)), *whole(0, Put(1, 11, 4)))
+        self.assertEqual(history.rows(2), [Row(1, 11, 3)])
+
+    def test_ends_and_refusals(self) -> None:
+        history = self.record(
+            *through(0, LOOK_UP, Remove(1)),
+            Step(0, Put(32, 0, 0)),
+            Step(8, Put(1, 0, 0)),
+            Step(0, GIVE_UP),
+            Step(1, Put(1, 10, 3)),
+            Step(1, GIVE_UP),
+        )
+        self.assertEqual(history, History(last_timestamp=2))
+
+    def test_rows_are_newest_by_timestamp(self) -> None:
+        history = History(
+            3,
+            {},
+            {
+                3: Committed(Put(1, 12, 1), 1),
+                1: Committed(Put(1, 10, 1), 1),
+                2: Committed(Remove(1), 1),
+            },
+        )
+        listings = [[], [Row(1, 10, 1)], [], [Row(1, 12, 1)], [Row(1, 12, 1)]]
+        self.assertEqual([history.rows(t) for t in range(5)], listings)
+
+    def test_stable(self) -> None:
+        history = History(4, {0: (3, Remove(0))}, {})
+        stable = [timestamp for timestamp in range(7) if history.is_stable(timestamp)]
+        self.assertEqual(stable, [1, 2])
+        history.open.clear()
+        stable = [timestamp for timestamp in range(7) if history.is_stable(timestamp)]
+        self.assertEqual(stable, [1, 2, 3, 4])
+
+
+if __name__ == "__main__":
+    unittest.main()
