@@ -12,17 +12,15 @@ use native.Mathlib.Omega.{arith}
 use borrow.Author.Tests.{eq-eqb, ne-eqb, lt-leb}
 use Rattle.model.specs.Limits.{writers, keys}
 use Rattle.model.specs.Counting.{listBelow}
-use Rattle.model.specs.State.{cell}
 use Rattle.model.specs.Rules.{act, abort, step}
 use Rattle.model.specs.Snapshot.{rowsAt, firstOf, pointRead}
 use Rattle.model.specs.History.{Committed, started, dropped, newestOn, rowOfNewest, listing}
-use Rattle.model.specs.Isolation.{Execution, next, executed, beginning, after}
+use Rattle.model.specs.Isolation.{Execution, next, beginning, after, committedSlice}
 use Rattle.model.specs.declared.Action.the-variants.{Abort}
 use Rattle.model.specs.declared.Step.{Step}
 use Rattle.model.proofs.CommittedAt.{committedAt-mem}
 use Rattle.model.proofs.Executed.{executed-keeps, executed-append}
 use Rattle.model.proofs.RangeKept.{ranged}
-use Rattle.model.proofs.Slices.{cells-cell}
 use Rattle.model.proofs.Moves.{View, Move, stays, starts, continues, ends, commits}
 use Rattle.model.proofs.Invariant.{Invariant, committed-completed}
 use Rattle.model.proofs.InvariantKept.{move-keeps}
@@ -80,9 +78,9 @@ move-stored s g v n m w i move h =
     let kept = move-keeps n m w i move .shared in
     record { completed = kept .completed s g (h .completed); cell = kept .cell s g (λ p. h .completed) ∙ h .cell }
 
-pub slice-stays : (ss more : List Step) (c : Committed) → List·Memᴰ c (after ss .history .done) → (k : ℕ) → k < keys
-    → cell (after (ss ++ more) .state .shared) (c .ts) k ≡ cell (after ss .state .shared) (c .ts) k
-slice-stays ss more c m k small =
+pub slice-stays : (ss more : List Step) (c : Committed) → List·Memᴰ c (after ss .history .done)
+    → committedSlice (after (ss ++ more)) c ≡ committedSlice (after ss) c
+slice-stays ss more c m =
     let u = after ss in
     let h = reached ss in
     let completed = committed-completed (viewOf u) (h .invariant) (c .ts) c (committedAt-mem (u .history .done) (h .invariant .distinct) c m) in
@@ -90,7 +88,4 @@ slice-stays ss more c m k small =
     executed-keeps (λ n. Consistent n × Stored (c .ts) (c .group) (viewOf u) (viewOf n))
     (λ n x (r, s). (step-consistent n x r, move-stored (c .ts) (c .group) (viewOf u) _ _ (x .writer) (r .invariant) (step-moves n x r) s))
     u more (h, record { completed = completed; cell = refl }) in
-    rw (executed-append beginning ss more)
-    (sym (cells-cell (executed u more .state .shared) (c .ts) k small)
-    ∙ ap (λ f. f k) (stored .1 .cell)
-    ∙ cells-cell (u .state .shared) (c .ts) k small)
+    rw (executed-append beginning ss more) (stored .1 .cell)

@@ -18,7 +18,7 @@ use Rattle.model.proofs.CompletedInstants.{groupCompleted, completedAt}
 use Rattle.model.proofs.Executed.{executed-keeps, executed-append}
 use Rattle.model.proofs.RangeKept.{fresh-in-range}
 use Rattle.model.proofs.CommittedAt.{committedAt, newest-on-later}
-use Rattle.model.proofs.Slices.{cells-zero}
+use Rattle.model.proofs.Slices.{cell-zero}
 use Rattle.model.proofs.Lengths.{fresh-sized}
 use Rattle.model.proofs.Moves.{View, Move, stays, starts, continues, ends, commits}
 use Rattle.model.proofs.InvariantKept.{ready-facts}
@@ -47,7 +47,7 @@ fresh-consistent =
             distinct = tt;
             linked = fresh-completed;
             above = λ s p. fresh-completed s;
-            empty = cells-zero _ _;
+            empty = cell-zero _ _;
             committed = λ s c e. absurd (none-some refl e);
             writer = λ w. rw (getD-fresh writers w ready) (ready-facts (viewOf beginning) w refl (λ e. omega arith));
             apart = λ a b p q e. absurd (omega (arith, ap (λ (x : Writer). x .phase) (fresh-writer a)));
@@ -114,8 +114,7 @@ isolated ss =
     let h = reached ss in
     record {
       lists = scan-listed (after ss) h;
-      apart =
-          λ c d p q k x y small e f. omega (arith, in-slice (after ss) h c p k x small e, in-slice (after ss) h d q k y small f);
+      apart = λ c d p q k x y e f. omega (arith, in-slice (after ss) h c p k x e, in-slice (after ss) h d q k y f);
       stays =
           λ t positive issued later more buffer room.
           let same = listing-stays t (after ss) more h (record { issued = issued; later = later; same = λ k. refl }) in

@@ -11,7 +11,7 @@ use borrow.Author.Tests.{ne-eqb, le-leb, lt-leb}
 use Rattle.model.specs.Limits.{writers, timestamps}
 use Rattle.model.specs.Answers.{taken, committed, aborted}
 use Rattle.model.specs.Counting.{upd}
-use Rattle.model.specs.State.{Shared, requested, inflight, completed, ready}
+use Rattle.model.specs.State.{Shared, requested, inflight, completed, cell, ready}
 use Rattle.model.specs.Range.{inRange}
 use Rattle.model.specs.Rules.{Outcome, begun, Answered, updated, step}
 use Rattle.model.specs.Snapshot.{instantOf}
@@ -25,7 +25,7 @@ use Rattle.model.proofs.Functions.{upd-same, upd-id, getD-upd}
 use Rattle.model.proofs.CompletedInstants.{groupCompleted, completedAt, completed-group, requested-group, inflight-group, instant-next, instant-set, completed-upd, newest-of, group-given}
 use Rattle.model.proofs.RangeKept.{WriterRanged, ranged, step-in-range}
 use Rattle.model.proofs.Outcomes.{Acted, isRefused, isEnded, hasStarted, hasFound, hasProposed, hasRead, hasWritten, hasEntered, hasChecked, hasCommitted, acts}
-use Rattle.model.proofs.Slices.{cells, cells-sliced}
+use Rattle.model.proofs.Slices.{cell-sliced}
 use Rattle.model.proofs.Lengths.{Sized, step-sized}
 use Rattle.model.proofs.Moves.{View, afterStart, afterPhase, afterEnd, afterCommit, looksUp, reads, writes, indexes, checks, Move, stays, starts, continues, ends, commits}
 use Rattle.model.proofs.Invariant.{Invariant}
@@ -38,7 +38,7 @@ viewOf u =
       lock = u .state .shared .lock;
       entry = λ k. getD (u .state .shared .index) k 0;
       completed = completedAt (u .state .shared .timeline);
-      cell = cells (u .state .shared .present) (u .state .shared .values);
+      cell = cell (u .state .shared .present) (u .state .shared .values);
       writer = λ w. getD (u .state .writers) w ready;
       history = u .history;
     }
@@ -128,7 +128,7 @@ module _ (u : Execution) (h : Consistent u) (w : ℕ) (there : w < writers) wher
   acted-moves (hasWritten p) fine =
       continues (writes p)
       (view-path _ (afterPhase v w _ _ _ _) refl refl refl refl
-      (cells-sliced (sh .present) (sh .values) x (fits .issued (omega arith)) (fits .key) (omega (arith, issued, h .sized .present))
+      (cell-sliced (sh .present) (sh .values) x (fits .issued (omega arith)) (fits .key) (omega (arith, issued, h .sized .present))
       (omega (arith, issued, h .sized .values)))
       (writer-path _) (recorded-taken _ _ _))
   acted-moves (hasEntered i p e) fine =

@@ -2,9 +2,8 @@
 use Prim.Native.Nat.{ℕ, _*_, _≤_, _<_}
 use mathlib.Core.Path.{_≡_}
 use mathlib.Core.List.{List, [], _∷_, _++_, List·Memᴰ}
-use mathlib.Core.Option.{some}
+use mathlib.Core.Option.{Option, some}
 use lib.ListN.{length}
-use Rattle.model.specs.Limits.{keys}
 use Rattle.model.specs.State.{State, fresh, cell}
 use Rattle.model.specs.Rules.{Answered, step}
 use Rattle.model.specs.Snapshot.{scan, listed, instantAt}
@@ -45,15 +44,19 @@ beginning = record { state = fresh; history = empty }
 abbrev pub after : List Step → Execution
 after ss = executed beginning ss
 
+-- "A committed slice is the one that a committed operation's write step stored": what each key has in the slice of its timestamp
+abbrev pub committedSlice : Execution → Committed → ℕ → Option ℕ
+committedSlice u c = cell (u .state .shared .present) (u .state .shared .values) (c .ts)
+
 -- demand 3, after a list of steps
 pub record Isolated (ss : List Step) : Type 0 where
   -- "a scan at any timestamp, given room, lists exactly the keys whose newest committed operation at or before it (newest by timestamp) is a put":
   -- it answers 0, counts these rows and stores them, and leaves what stands behind them
   pub lists : (t : ℕ) (buffer : List ℕ) → 3 * length (listing (after ss .history) t) ≤ length buffer
       → scan (after ss .state) t buffer ≡ listed (listing (after ss .history) t) buffer
-  -- "No key ever stands in the committed slices of two file groups.": the slice of a committed operation is that of its timestamp
-  pub apart : (c d : Committed) → List·Memᴰ c (after ss .history .done) → List·Memᴰ d (after ss .history .done) → (k u v : ℕ) → k < keys
-      → cell (after ss .state .shared) (c .ts) k ≡ some u → cell (after ss .state .shared) (d .ts) k ≡ some v → c .group ≡ d .group
+  -- "No key ever stands in the committed slices of two file groups."
+  pub apart : (c d : Committed) → List·Memᴰ c (after ss .history .done) → List·Memᴰ d (after ss .history .done) → (k u v : ℕ)
+      → committedSlice (after ss) c k ≡ some u → committedSlice (after ss) d k ≡ some v → c .group ≡ d .group
   -- "If the timestamp has been issued and no operation in progress holds it or an earlier one, that listing stays the same whatever steps follow."
   pub stays : (t : ℕ) → 1 ≤ t → t ≤ after ss .history .last
       → ((w : ℕ) (p : Pending) → after ss .history .pending w ≡ some p → t < p .ts)

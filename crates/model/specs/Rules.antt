@@ -7,7 +7,7 @@ use lib.ListN.{getD, set}
 use lib.Dec.{eqb, ltb, leb}
 use Rattle.model.specs.Limits.{writers, keys, groups, timestamps}
 use Rattle.model.specs.Answers.{taken, committed, notIndexed, tooLate, otherGroup, groupChanged, aborted, noWriter, noKey, noGroup, wrongPhase, noTimestamp, locked, outOfRange}
-use Rattle.model.specs.State.{Shared, State, shared, requested, inflight, completed, newest, rowAt, ready}
+use Rattle.model.specs.State.{Shared, State, shared, requested, inflight, completed, newest, rowAt, rowIn, ready}
 use Rattle.model.specs.Range.{inRange}
 use Rattle.model.specs.declared.Writer.{Writer}
 use Rattle.model.specs.declared.Operation.{Operation}
@@ -42,7 +42,7 @@ issued s = shared (s .last + 1) (s .lock) (s .index) (set (s .timeline) (s .last
 -- the rows after the first k of the slice of timestamp n are taken over from the slice of b; none for b = 0
 unfoldable pub copied : {A : Type 0} → A → List A → ℕ → ℕ → ℕ → List A
 copied absent rows b n zero = rows
-copied absent rows b n (suc k) = set (copied absent rows b n k) (rowAt n k) (cond (eqb b 0) absent (getD rows (rowAt b k) absent))
+copied absent rows b n (suc k) = set (copied absent rows b n k) (rowAt n k) (rowIn absent rows b k)
 
 -- the slice of timestamp n stored: the rows of the slice of b, with v at key k
 unfoldable pub sliced : {A : Type 0} → A → List A → ℕ → ℕ → ℕ → A → List A

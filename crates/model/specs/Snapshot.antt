@@ -29,7 +29,7 @@ rowIf k g (some v) = row k v g ∷ []
 
 -- "For each group take the completed instant with the largest timestamp at or below t; its slice counts": what file group g shows of key k
 abbrev pub shown : Shared → ℕ → ℕ → ℕ → List Row
-shown s t k g = rowIf k g (cell s (newest (s .timeline) g t) k)
+shown s t k g = rowIf k g (cell (s .present) (s .values) (newest (s .timeline) g t) k)
 
 -- the rows of key k at timestamp t, "lower group first"
 abbrev pub rowsOf : Shared → ℕ → ℕ → List Row

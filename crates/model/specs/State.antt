@@ -1,10 +1,10 @@
 -- A table with its rows as one value, document 01, "What the engine holds".
 use Prim.Native.Nat.{ℕ, zero, suc, _+_, _-_, _*_}
-use mathlib.Core.Bool.{Bool, false, cond}
+use mathlib.Core.Bool.{Bool, false, cond, _&&_}
 use mathlib.Core.List.{List}
 use mathlib.Core.Option.{Option, none, some}
 use lib.ListN.{getD, replicate}
-use lib.Dec.{eqb}
+use lib.Dec.{eqb, ltb}
 use Rattle.model.specs.Limits.{writers, keys, groups, timestamps}
 use Rattle.model.specs.declared.Writer.{Writer}
 use Rattle.model.specs.declared.Table.{Table}
@@ -49,10 +49,13 @@ newest timeline g (suc n) = cond (eqb (getD timeline n 0) (completed g)) (suc n)
 abbrev pub rowAt : ℕ → ℕ → ℕ
 rowAt n k = (n - 1) * keys + k
 
--- the value that key k has in the slice of timestamp n, if it has a row there; timestamp 0 has no slice
-abbrev pub cell : Shared → ℕ → ℕ → Option ℕ
-cell s zero k = none
-cell s (suc n) k = cond (getD (s .present) (rowAt (suc n) k) false) (some (getD (s .values) (rowAt (suc n) k) 0)) none
+-- what `rows` has for key k in the slice of timestamp n; timestamp 0 has no slice
+abbrev pub rowIn : {A : Type 0} → A → List A → ℕ → ℕ → A
+rowIn absent rows n k = cond (eqb n 0) absent (getD rows (rowAt n k) absent)
+
+-- the value that key k has in the slice of timestamp n, if it has a row there; a key past the last has none
+unfoldable pub cell : List Bool → List ℕ → ℕ → ℕ → Option ℕ
+cell present values n k = cond (ltb k keys && rowIn false present n k) (some (rowIn 0 values n k)) none
 
 -- "all writers ready": a ready writer keeps no operation, timestamp or base
 abbrev pub ready : Writer

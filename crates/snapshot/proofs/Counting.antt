@@ -1,8 +1,8 @@
 -- The slices of the file groups counted: `Counted` is the invariant of the loop over the groups, with one law for each way round it.
---     cell-at, shown-row, shown-none    a row of a slice, and what a group shows of a key
+--     shown-row, shown-none    what a group shows of a key
 --     counted-le     a key has no more rows than there are groups
 --     counted-all, all-fit    the number of all rows, and what storing them asks
-use Prim.Native.Nat.{ℕ, zero, suc, _+_, _*_, _<_, _≤_}
+use Prim.Native.Nat.{ℕ, _+_, _*_, _<_, _≤_}
 use native.Mathlib.Decide.{ℕ-discrete}
 use native.Mathlib.Omega.{arith}
 use mathlib.Core.Bool.{Bool, true, false, cond}
@@ -15,22 +15,18 @@ use Rattle.model.specs.Limits.{keys, groups}
 use Rattle.model.specs.Counting.{listBelow}
 use Rattle.model.specs.State.{rowAt, cell}
 use Rattle.model.specs.Snapshot.{row, rowIf}
+use Rattle.model.proofs.Slices.{cell-zero, cell-row}
 use Rattle.snapshot.specs.declared.rows.Shown.{Shown}
 use Rattle.snapshot.specs.Newest.{Slices}
-use Rattle.snapshot.specs.Rows.{rowsOnly, shownBy, rowsOfKey, allRows, HasRow, countWith, lowestWith, SliceCounted, Counted, sum, AllFit}
+use Rattle.snapshot.specs.Rows.{shownBy, rowsOfKey, allRows, HasRow, countWith, lowestWith, SliceCounted, Counted, sum, AllFit}
 use Rattle.snapshot.proofs.Lists.{no-length, length-more, length-most, sum-length}
-
-pub cell-at : (present : List Bool) (values : List ℕ) (n k : ℕ) → 0 < n
-    → cell (rowsOnly present values) n k ≡ cond (getD present (rowAt n k) false) (some (getD values (rowAt n k) 0)) none
-cell-at present values zero k h = absurd (omega arith)
-cell-at present values (suc n) k h = refl
 
 -- what file group g shows of a key, where n is the timestamp of its slice
 module _ {present : List Bool} {n k : ℕ} {b : Bool} (h : HasRow present n k b) (values : List ℕ) (g : ℕ) where
-  pub shown-row : b ≡ true → {place : ℕ} → place ≡ rowAt n k → rowIf k g (cell (rowsOnly present values) n k) ≡ row k (getD values place 0) g ∷ []
+  pub shown-row : b ≡ true → {place : ℕ} → place ≡ rowAt n k → rowIf k g (cell present values n k) ≡ row k (getD values place 0) g ∷ []
   shown-row e p = rw (h .is values, e, p)
 
-  pub shown-none : b ≡ false → rowIf k g (cell (rowsOnly present values) n k) ≡ []
+  pub shown-none : b ≡ false → rowIf k g (cell present values n k) ≡ []
   shown-none e = rw (h .is values, e)
 
 row-count : (k g v : ℕ) (b : Bool) → length (rowIf k g (cond b (some v) none)) ≡ cond b 1 0
@@ -57,36 +53,36 @@ module _ (slices : List ℕ) (present : List Bool) where
         omega (
           arith,
           h .count [] k l,
-          length-most g (shownBy slices present [] k) (λ i. row-most k i (cell (rowsOnly present []) (getD slices i 0) k)),
+          length-most g (shownBy slices present [] k) (λ i. row-most k i (cell present [] (getD slices i 0) k)),
         )
 
     -- group g counted: `shows k` tells whether it shows key k
-    module _ (shows : ℕ → Bool) (shown : (values : List ℕ) (k : ℕ) → length (shownBy slices present values k g) ≡ cond (shows k) 1 0) where
-      hidden : (values : List ℕ) (k n : ℕ) (b : Bool) → shows k ≡ b → g < lowestWith b g n → shownBy slices present values k g ≡ []
-      hidden values k n true e l = absurd (omega arith)
-      hidden values k n false e l = no-length _ (shown values k ∙ rw e)
+    module _ (shows : ℕ → Bool) (shown : (values : List ℕ) (k : ℕ) → k < keys → length (shownBy slices present values k g) ≡ cond (shows k) 1 0) where
+      hidden : (values : List ℕ) (k n : ℕ) (b : Bool) → k < keys → shows k ≡ b → g < lowestWith b g n → shownBy slices present values k g ≡ []
+      hidden values k n true small e l = absurd (omega arith)
+      hidden values k n false small e l = no-length _ (shown values k small ∙ rw e)
 
       counted-with : {new : Shown} → ((k : ℕ) → k < keys → getD (new .counts) k 0 ≡ countWith (shows k) (getD (old .counts) k 0))
           → ((k : ℕ) → k < keys → getD (new .lowest) k 0 ≡ lowestWith (shows k) g (getD (old .lowest) k 0)) → Counted slices present (g + 1) new
       counted-with c d =
           record {
-            count = λ values k l. c k l ∙ sym (length-more g (shownBy slices present values k) ∙ rw (shown values k, h .count values k l));
+            count = λ values k l. c k l ∙ sym (length-more g (shownBy slices present values k) ∙ rw (shown values k l, h .count values k l));
             small = λ k l. omega (arith, h .small k l, d k l);
             below = λ values k j l m n.
                 by-cases (ℕ-discrete j g)
-                (λ e. rw e (hidden values k (getD (old .lowest) k 0) (shows k) refl (omega (arith, d k l))))
+                (λ e. rw e (hidden values k (getD (old .lowest) k 0) (shows k) l refl (omega (arith, d k l))))
                 (λ e. h .below values k j l (omega (arith, d k l)) (omega arith));
           }
 
     pub counted-skip : getD slices g 0 ≡ 0 → Counted slices present (g + 1) old
     counted-skip e =
-        counted-with (λ k. false) (λ values k. rw e) (λ k l. omega arith) (λ k l. omega (arith, h .small k l))
+        counted-with (λ k. false) (λ values k l. rw (e, cell-zero present values k)) (λ k l. omega arith) (λ k l. omega (arith, h .small k l))
 
     pub counted-next : {from : ℕ} {new : Shown} → 0 < getD slices g 0 → from ≡ rowAt (getD slices g 0) 0 → SliceCounted present from g old new
         → Counted slices present (g + 1) new
     counted-next {from} p e s =
         counted-with (λ k. getD present (from + k) false)
-        (λ values k. let q : from + k ≡ rowAt (getD slices g 0) k = omega arith in rw (cell-at present values (getD slices g 0) k p, q, row-count))
+        (λ values k l. let q : from + k ≡ rowAt (getD slices g 0) k = omega arith in rw (cell-row present values (getD slices g 0) k p l, q, row-count))
         (s .count)
         (s .low)
 

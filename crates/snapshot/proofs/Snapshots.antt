@@ -2,24 +2,24 @@
 --     in-range-coded    a table in range, as the pass down the timeline asks it
 --     scan-refused, scan-full, scan-done    a scan: out of range, no room, all rows stored
 --     read-refused, read-no-key, read-found    a point read
-use Prim.Native.Nat.{ℕ, zero, suc, _*_, _<_, _≤_}
+use Prim.Native.Nat.{ℕ, _*_, _<_, _≤_}
 use native.Mathlib.Omega.{arith}
 use mathlib.Core.Bool.{Bool, true, false}
-use mathlib.Core.Path.{_≡_, refl, _∙_, ap}
+use mathlib.Core.Path.{_≡_, _∙_, ap}
 use mathlib.Core.List.{List}
 use lib.ListN.{getD, length}
 use borrow.Author.Tests.{lt-ltb, le-ltb, le-leb, lt-leb}
 use Rattle.model.specs.Limits.{keys, groups}
 use Rattle.model.specs.Answers.{taken, noKey, outOfRange, noRoom}
-use Rattle.model.specs.State.{Shared, State, cell}
+use Rattle.model.specs.State.{State}
 use Rattle.model.specs.Range.{inRange}
-use Rattle.model.specs.Snapshot.{rowIf, rowsOf, rowsAt, Listed, unlisted, listed, scan, firstOf, pointRead}
+use Rattle.model.specs.Snapshot.{rowsOf, rowsAt, Listed, unlisted, listed, scan, firstOf, pointRead}
 use Rattle.model.specs.declared.Found.the-variants.{Refused}
 use Rattle.model.proofs.ListBelow.{same-below}
 use Rattle.model.proofs.RangeKept.{ranged}
 use Rattle.snapshot.specs.declared.rows.Shown.{Shown}
 use Rattle.snapshot.specs.Newest.{Coded, NewestSlices}
-use Rattle.snapshot.specs.Rows.{rowsOnly, rowsOfKey, allRows, Counted, sum}
+use Rattle.snapshot.specs.Rows.{rowsOfKey, allRows, Counted, sum}
 use Rattle.snapshot.proofs.Counting.{counted-all}
 
 pub in-range-coded : (st : State) → inRange st ≡ true → Coded (st .shared .timeline)
@@ -38,10 +38,6 @@ module _ (st : State) (t : ℕ) where
   unfolding pointRead
   read-no-key k r l = rw (r, le-leb keys k l)
 
-cell-same : (s : Shared) (n k : ℕ) → cell (rowsOnly (s .present) (s .values)) n k ≡ cell s n k
-cell-same s zero k = refl
-cell-same s (suc n) k = refl
-
 module _ (st : State) (t : ℕ) {slices : List ℕ} (h : NewestSlices (st .shared .timeline) t slices) where
   abbrev present : List Bool
   present = st .shared .present
@@ -50,8 +46,7 @@ module _ (st : State) (t : ℕ) {slices : List ℕ} (h : NewestSlices (st .share
   values = st .shared .values
 
   key-same : (k : ℕ) → rowsOfKey slices present values k ≡ rowsOf (st .shared) t k
-  key-same k =
-      same-below groups _ _ (λ g l. ap (rowIf k g) (cell-same (st .shared) (getD slices g 0) k ∙ ap (λ n. cell (st .shared) n k) (h .is g l)))
+  key-same k = same-below groups _ _ (λ g l. rw (h .is g l))
 
   all-same : allRows slices present values ≡ rowsAt (st .shared) t
   unfolding rowsAt

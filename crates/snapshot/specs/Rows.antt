@@ -8,18 +8,14 @@ use lib.ListN.{length, getD}
 use lib.Seq.{sets}
 use Rattle.model.specs.Limits.{keys, groups}
 use Rattle.model.specs.Counting.{listBelow}
-use Rattle.model.specs.State.{Shared, shared, rowAt, cell}
+use Rattle.model.specs.State.{rowAt, cell}
 use Rattle.model.specs.Snapshot.{Row, rowIf, numbers}
 use Rattle.snapshot.specs.Newest.{Slices}
 use Rattle.snapshot.specs.declared.rows.Shown.{Shown}
 
--- a shared state with nothing but rows
-abbrev pub rowsOnly : List Bool → List ℕ → Shared
-rowsOnly present values = shared 0 0 [] [] present values
-
 -- what file group g shows of key k
 abbrev pub shownBy : List ℕ → List Bool → List ℕ → ℕ → ℕ → List Row
-shownBy slices present values k g = rowIf k g (cell (rowsOnly present values) (getD slices g 0) k)
+shownBy slices present values k g = rowIf k g (cell present values (getD slices g 0) k)
 
 -- the rows of key k, lower group first
 abbrev pub rowsOfKey : List ℕ → List Bool → List ℕ → ℕ → List Row
@@ -32,7 +28,7 @@ allRows slices present values = listBelow keys (rowsOfKey slices present values)
 -- r tells whether the slice of timestamp n has a row of key k
 pub record HasRow (present : List Bool) (n k : ℕ) (r : Bool) : Type 0 where
   pub slice : r ≡ true → 0 < n
-  pub is : (values : List ℕ) → cell (rowsOnly present values) n k ≡ cond r (some (getD values (rowAt n k) 0)) none
+  pub is : (values : List ℕ) → cell present values n k ≡ cond r (some (getD values (rowAt n k) 0)) none
 
 -- a key's count, and the lowest file group that shows it, with one group more
 abbrev pub countWith : Bool → ℕ → ℕ

@@ -9,7 +9,7 @@ use Rattle.leb128.specs.declared.Decoded.{Decoded}
 use Rattle.leb128.specs.declared.Decoded.the-variants.{Number, Stop}
 use Rattle.model.specs.Counting.{eachBelow, listBelow}
 use Rattle.model.specs.Limits.{writers, keys, timestamps}
-use Rattle.model.specs.State.{State, fresh, newest}
+use Rattle.model.specs.State.{State, fresh, newest, cell}
 use Rattle.model.specs.Range.{inRange, writersInRange, indexInRange, instantsInRange, noneAbove}
 use Rattle.model.specs.Rules.{Answered, copied, sliced, start, lookUp, readBase, writeSlice, enterIndex, checkConflict, commit, abort, act, step}
 use Rattle.model.specs.Snapshot.{Listed, rowsAt, numbers, scan}
@@ -118,5 +118,5 @@ traces =
     ∷ []
 
 pub traces-hold : map (λ (t : Trace). outcome (t .case)) traces ≡ map (λ (t : Trace). t .stated) traces
-unfolding traces outcome encoded encodedIn decodedAt decodedIn answersTo executed next step act start lookUp readBase writeSlice enterIndex checkConflict commit abort inRange eachBelow writersInRange indexInRange instantsInRange noneAbove newest copied sliced fresh scan rowsAt numbers listBelow
+unfolding traces outcome encoded encodedIn decodedAt decodedIn answersTo executed next step act start lookUp readBase writeSlice enterIndex checkConflict commit abort inRange eachBelow writersInRange indexInRange instantsInRange noneAbove newest cell copied sliced fresh scan rowsAt numbers listBelow
 traces-hold = refl
