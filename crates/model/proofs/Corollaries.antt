@@ -34,7 +34,7 @@ unfolding started dropped
 commits-nothing v n w i free (stays e) = ap (λ (x : View). x .history .done) e
 commits-nothing v n w i free (starts op at e) = ap (λ (x : View). x .history .done) e
 commits-nothing v n w i free (continues p e) = ap (λ (x : View). x .history .done) e
-commits-nothing v n w i free (ends at e) = ap (λ (x : View). x .history .done) e
+commits-nothing v n w i free (ends e) = ap (λ (x : View). x .history .done) e
 commits-nothing v n w i free (commits p at is e) = absurd (free (i .writer w .locks (omega arith)))
 
 rows-stay : (u : Execution) → Consistent u → (s : Step) → u .state .shared .lock ≢ s .writer + 1

@@ -456,5 +456,5 @@ move-keeps v n w i (stays e) =
     subst⁻¹ (Kept v) e (record { shared = unchanged v v (omega arith) refl refl refl; invariant = i })
 move-keeps v n w i (starts op at e) = subst⁻¹ (Kept v) e (start-keeps v w i op at)
 move-keeps v n w i (continues p e) = subst⁻¹ (Kept v) e (phase-keeps v w i p)
-move-keeps v n w i (ends at e) = subst⁻¹ (Kept v) e (end-keeps v w i)
+move-keeps v n w i (ends e) = subst⁻¹ (Kept v) e (end-keeps v w i)
 move-keeps v n w i (commits p at is e) = subst⁻¹ (Kept v) e (commit-keeps v w i p at is)

@@ -89,7 +89,7 @@ module _ (t : ℕ) (h : History) (v : View) (w : ℕ) (s : Settled t h (v .histo
         same = s .same;
       })
   move-settled n (continues p e) = subst⁻¹ SettledIn e s
-  move-settled n (ends at e) =
+  move-settled n (ends e) =
       subst⁻¹ SettledIn e (record { issued = s .issued; later = later-without; same = s .same })
   move-settled n (commits p at is e) =
       subst⁻¹ SettledIn e

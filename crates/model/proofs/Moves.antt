@@ -1,5 +1,5 @@
 -- What the theorems see of a table and its history, with functions in place of lists, and what a step can make of it: a `Move`.
-use Prim.Native.Nat.{ℕ, _+_, _≤_, _<_}
+use Prim.Native.Nat.{ℕ, _+_, _≤_}
 use mathlib.Core.Path.{_≡_}
 use mathlib.Core.Logic.{_≢_}
 use mathlib.Core.Bool.{true, false, cond}
@@ -103,5 +103,5 @@ pub data Move (v : View) (w : ℕ) (n : View) : Type 0 where
   starts : (op : Operation) → v .writer w .phase ≡ 0 → n ≡ afterStart v w op → Move v w n
   continues : {x : Writer} {l : ℕ} {e : ℕ → ℕ} {c : ℕ → ℕ → Option ℕ} → NextPhase v w (v .writer w) x l e c
       → n ≡ afterPhase v w x l e c → Move v w n
-  ends : 0 < v .writer w .phase → n ≡ afterEnd v w → Move v w n
+  ends : n ≡ afterEnd v w → Move v w n
   commits : (p : Pending) → v .writer w .phase ≡ 6 → v .history .pending w ≡ some p → n ≡ afterCommit v w p → Move v w n

@@ -106,7 +106,7 @@ module _ (u : Execution) (h : Consistent u) (w : ℕ) (there : w < writers) wher
       stays
       (view-path _ v refl refl refl refl refl
       (ap {B = ℕ → Writer} (λ (l : List Writer) (i : ℕ). getD l i ready) (set-getD (u .state .writers) w ready)) (recorded-refused _ _ n _ (omega arith)))
-  acted-moves (isEnded a n p) fine = ends (p .2) (view-path _ (afterEnd v w) refl refl refl refl refl (writer-path ready) (recorded-ended _ _ n _ (p .0) (p .1)))
+  acted-moves (isEnded a n p) fine = ends (view-path _ (afterEnd v w) refl refl refl refl refl (writer-path ready) (recorded-ended _ _ n _ (p .0) (p .1)))
   acted-moves (hasStarted op k g p l) fine =
       starts op p
       (view-path _ (afterStart v w op) refl refl refl

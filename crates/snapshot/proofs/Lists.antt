@@ -55,18 +55,16 @@ module _ {A : Type 0} where
 
 -- a loop that fills a list of n numbers: each below i is what f says
 pub record Filled (f : ℕ → ℕ) (n : ℕ) (xs : List ℕ) (i : ℕ) : Type 0 where
-  pub low : i ≤ n
   pub size : length xs ≡ n
   pub at : (j : ℕ) → j < i → getD xs j 0 ≡ f j
 
 pub fill-none : {f : ℕ → ℕ} {n : ℕ} {xs : List ℕ} → length xs ≡ n → Filled f n xs 0
-fill-none e = record { low = omega arith; size = e; at = λ j l. absurd (omega arith) }
+fill-none e = record { size = e; at = λ j l. absurd (omega arith) }
 
 module _ {f : ℕ → ℕ} {n : ℕ} {xs : List ℕ} {i : ℕ} (h : Filled f n xs i) where
   pub fill-next : (v : ℕ) → i < n → v ≡ f i → Filled f n (set xs i v) (i + 1)
   fill-next v l e =
       record {
-        low = omega arith;
         size = length-set xs i v ∙ h .size;
         at =
             below-more _ _ (λ j m. getD-set-other xs i j v 0 (λ q. omega arith) ∙ h .at j m)
