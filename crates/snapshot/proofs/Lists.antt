@@ -1,4 +1,4 @@
--- Lists made by counting (`listBelow`), and loops that fill a list (`Filled`) and sum one up (`Summed`).
+-- Lists made by counting (`listBelow`), and loops that change a list (`Changed`) and sum one up (`Summed`).
 use Prim.Native.Nat.{ℕ, zero, suc, _+_, _-_, _*_, _<_, _≤_}
 use native.Mathlib.Numerals.{add-one}
 use native.Mathlib.Omega.{arith}
@@ -53,26 +53,28 @@ module _ {A : Type 0} where
   sum-length (suc n) f c h =
       rw (sum-length n f c (λ i l. h i (omega arith)), h n (omega arith)) (sym (length-append (listBelow n f) (f n)))
 
--- a loop that fills a list of n numbers: each below i is what f says
-pub record Filled (f : ℕ → ℕ) (n : ℕ) (xs : List ℕ) (i : ℕ) : Type 0 where
+-- a loop that changes a list of n numbers, `old`, place by place: each below i is what f makes of it, the others are as they were
+pub record Changed (f : ℕ → ℕ → ℕ) (n : ℕ) (old xs : List ℕ) (i : ℕ) : Type 0 where
   pub size : length xs ≡ n
-  pub at : (j : ℕ) → j < i → getD xs j 0 ≡ f j
+  pub done : (j : ℕ) → j < i → getD xs j 0 ≡ f j (getD old j 0)
+  pub same : (j : ℕ) → i ≤ j → getD xs j 0 ≡ getD old j 0
 
-pub fill-none : {f : ℕ → ℕ} {n : ℕ} {xs : List ℕ} → length xs ≡ n → Filled f n xs 0
-fill-none e = record { size = e; at = λ j l. absurd (omega arith) }
+pub change-none : {f : ℕ → ℕ → ℕ} {n : ℕ} {xs : List ℕ} → length xs ≡ n → Changed f n xs xs 0
+change-none e = record { size = e; done = λ j l. absurd (omega arith); same = λ j l. refl }
 
-module _ {f : ℕ → ℕ} {n : ℕ} {xs : List ℕ} {i : ℕ} (h : Filled f n xs i) where
-  pub fill-next : (v : ℕ) → i < n → v ≡ f i → Filled f n (set xs i v) (i + 1)
-  fill-next v l e =
+module _ {f : ℕ → ℕ → ℕ} {n : ℕ} {old xs : List ℕ} {i : ℕ} (h : Changed f n old xs i) where
+  pub change-next : (v : ℕ) → i < n → v ≡ f i (getD xs i 0) → Changed f n old (set xs i v) (i + 1)
+  change-next v l e =
       record {
         size = length-set xs i v ∙ h .size;
-        at =
-            below-more _ _ (λ j m. getD-set-other xs i j v 0 (λ q. omega arith) ∙ h .at j m)
-            (getD-set-same xs i v 0 (omega (arith, h .size)) ∙ e);
+        done =
+            below-more _ _ (λ j m. getD-set-other xs i j v 0 (λ q. omega arith) ∙ h .done j m)
+            (getD-set-same xs i v 0 (omega (arith, h .size)) ∙ e ∙ ap (f i) (h .same i (omega arith)));
+        same = λ j m. getD-set-other xs i j v 0 (λ q. omega arith) ∙ h .same j (omega arith);
       }
 
-  pub fill-end : n ≤ i → (j : ℕ) → j < n → getD xs j 0 ≡ f j
-  fill-end l j m = h .at j (omega arith)
+  pub change-end : n ≤ i → (j : ℕ) → j < n → getD xs j 0 ≡ f j (getD old j 0)
+  change-end l j m = h .done j (omega arith)
 
 -- a loop that sums up the numbers f 0, f 1, .., each at most m: those below i
 pub record Summed (f : ℕ → ℕ) (m n total i : ℕ) : Type 0 where

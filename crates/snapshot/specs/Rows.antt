@@ -6,6 +6,8 @@ use mathlib.Core.List.{List, []}
 use mathlib.Core.Option.{none, some}
 use lib.ListN.{length, getD}
 use lib.Seq.{sets}
+use denote.Ref.{now}
+use Rattle.model.specs.Calls.{Lent}
 use Rattle.model.specs.Limits.{keys, groups}
 use Rattle.model.specs.Counting.{listBelow}
 use Rattle.model.specs.State.{rowAt, cell}
@@ -37,10 +39,23 @@ countWith shows n = n + cond shows 1 0
 abbrev pub lowestWith : Bool → ℕ → ℕ → ℕ
 lowestWith shows g n = min n (cond shows g groups)
 
+-- what is counted, as a call begins and as it ends
+abbrev pub shownBefore : Lent ℕ → Lent ℕ → Shown
+shownBefore counts lowest = record { counts = now (counts .entry); lowest = now (lowest .entry) }
+
+abbrev pub shownAfter : Lent ℕ → Lent ℕ → Shown
+shownAfter counts lowest = record { counts = now (counts .exit); lowest = now (lowest .exit) }
+
+-- both lists have a place for each key
+pub record Sized (shown : Shown) : Type 0 where
+  pub counts : length (shown .counts) ≡ keys
+  pub lowest : length (shown .lowest) ≡ keys
+
 -- the slice of file group g, whose rows stand from a place on, is counted
 pub record SliceCounted (present : List Bool) (from g : ℕ) (old new : Shown) : Type 0 where
   pub count : (k : ℕ) → k < keys → getD (new .counts) k 0 ≡ countWith (getD present (from + k) false) (getD (old .counts) k 0)
   pub low : (k : ℕ) → k < keys → getD (new .lowest) k 0 ≡ lowestWith (getD present (from + k) false) g (getD (old .lowest) k 0)
+  pub sized : Sized new
 
 -- the slices of the file groups below n are counted
 pub record Counted (slices : List ℕ) (present : List Bool) (n : ℕ) (shown : Shown) : Type 0 where

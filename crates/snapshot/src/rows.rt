@@ -8,7 +8,7 @@ ghost use Rattle.model.specs.Limits.{keys, groups, timestamps};
 ghost use Rattle.model.specs.State.{rowAt};
 ghost use Rattle.model.specs.Snapshot.{row, listed, firstOf};
 ghost use Rattle.snapshot.specs.Newest.{Slices};
-ghost use Rattle.snapshot.specs.Rows.{rowsOfKey, allRows, HasRow, SliceCounted, Counted, sum, Stored, KeyFits, AllFit};
+ghost use Rattle.snapshot.specs.Rows.{rowsOfKey, allRows, HasRow, shownBefore, shownAfter, Sized, SliceCounted, Counted, sum, Stored, KeyFits, AllFit};
 use model::Found;
 use model::Value;
 use model::Word;
@@ -63,43 +63,43 @@ fn smaller(a: u8, b: u8) -> u8
 }
 
 // Counts the slice of a file group, whose rows stand from a place on. The loop has no exit, so that it runs on whole vectors.
-fn count_slice(shown: Shown, present: &[bool; ROWS], from: usize, group: u8) -> Shown
-    requires { ⌜ (from + keys ≤ timestamps * keys) × ((k : ℕ) → k < keys → getD (shown .counts) k 0 ≤ groups) ⌝ }
-    ensures { λ r. ⌜ SliceCounted (now (present .entry)) from group shown r ⌝ }
+fn count_slice(
+    counts: &mut [u8; KEYS],
+    lowest: &mut [u8; KEYS],
+    present: &[bool; ROWS],
+    from: usize,
+    group: u8,
+)
+    requires { ⌜ Sized (record { counts = now counts; lowest = now lowest }) × (from + keys ≤ timestamps * keys) × ((k : ℕ) → k < keys → getD (now counts) k 0 ≤ groups) ⌝ }
+    ensures { λ _. ⌜ SliceCounted (now (present .entry)) from group (shownBefore counts lowest) (shownAfter counts lowest) ⌝ }
 {
-    let old_counts = shown.counts;
-    let old_lowest = shown.lowest;
-    let mut counts = [0u8; KEYS];
-    let mut lowest = [0u8; KEYS];
     let mut k: usize = 0;
     while k < KEYS {
         let shows = present[from + k];
-        counts[k] = old_counts[k] + number(shows);
-        lowest[k] = smaller(old_lowest[k], group_if(shows, group));
+        counts[k] += number(shows);
+        lowest[k] = smaller(lowest[k], group_if(shows, group));
         k += 1;
     }
-    Shown { counts, lowest }
 }
 
-// Counts the slices of all file groups.
+// Counts the slices of all file groups. Each turn is lent the arrays: as a struct by value they would be taken apart, byte by byte, in each.
 pub fn count_slices(slices: [u8; GROUPS], present: &[bool; ROWS]) -> Shown
     requires { ⌜ Slices slices ⌝ }
     ensures { λ r. ⌜ Counted slices (now (present .entry)) groups r ⌝ }
 {
-    let mut shown = Shown {
-        counts: [0; KEYS],
-        lowest: [GROUPS as u8; KEYS],
-    };
+    let mut counts = [0u8; KEYS];
+    let mut lowest = [GROUPS as u8; KEYS];
     let mut g: usize = 0;
     while g < GROUPS {
         let group = g;
         let slice = slices[group];
         g += 1;
         if 0 < slice {
-            shown = count_slice(shown, present, row_at(slice, 0), group as u8);
+            let from = row_at(slice, 0);
+            count_slice(&mut counts, &mut lowest, present, from, group as u8);
         }
     }
-    shown
+    Shown { counts, lowest }
 }
 
 // The number of all rows.

@@ -1,26 +1,25 @@
--- `count_slice` meets its contract. The loop's invariant: both lists are filled below k. The measure is the number of keys left.
+-- `count_slice` meets its contract. The loop's invariant: both lists are changed below k. The measure is the number of keys left.
 use Prim.Native.Nat.{_-_, _+_}
 use native.Mathlib.Omega.{arith}
 use mathlib.Core.Bool.{false}
-use mathlib.Core.Path.{refl}
 use lib.ListN.{getD}
 use borrow.Author.Needs.{needs}
 use Rattle.model.specs.Limits.{keys}
 use Rattle.snapshot.specs.Rows.{countWith, lowestWith}
-use Rattle.snapshot.proofs.Lists.{Filled, fill-none, fill-next, fill-end}
+use Rattle.snapshot.proofs.Lists.{Changed, change-none, change-next, change-end}
 use Rattle.snapshot.proofs.rows.count_slice.Statement.{statement}
 use Rattle.snapshot.proofs.rows.count_slice.Tie as tie
 
 abbrev Inv-loop : tie.InvT-loop
-Inv-loop present from group old-counts old-lowest counts₀ lowest₀ k₀ counts lowest k =
-    Filled (λ j. countWith (getD present (from + j) false) (getD old-counts j 0)) keys counts k
-    × Filled (λ j. lowestWith (getD present (from + j) false) group (getD old-lowest j 0)) keys lowest k
+Inv-loop counts₀ lowest₀ present from group k₀ counts lowest k =
+    Changed (λ j. countWith (getD present (from + j) false)) keys counts₀ counts k
+    × Changed (λ j. lowestWith (getD present (from + j) false) group) keys lowest₀ lowest k
 
 abbrev μ-loop : tie.MeasureT-loop
-μ-loop present from group old-counts old-lowest counts₀ lowest₀ k₀ counts lowest k = keys - k
+μ-loop counts₀ lowest₀ present from group k₀ counts lowest k = keys - k
 
 loop-holds : tie.Need-loop-holds Inv-loop μ-loop
-loop-holds c = (fill-none refl, fill-none refl)
+loop-holds c = (change-none (c .pre .0 .counts), change-none (c .pre .0 .lowest))
 
 add-shows : tie.Need-add-shows Inv-loop μ-loop
 add-shows c = search needs
@@ -28,23 +27,24 @@ add-shows c = search needs
 element-copy-out-shows : tie.Need-element-copy-out-shows Inv-loop μ-loop
 element-copy-out-shows c = search needs
 
-array-read-counts : tie.Need-array-read-counts Inv-loop μ-loop
-array-read-counts c = search needs
-
 number-requires : tie.Need-number-requires Inv-loop μ-loop
 number-requires c κs = search needs
 
+element-copy-out-counts : tie.Need-element-copy-out-counts Inv-loop μ-loop
+element-copy-out-counts c = search needs
+
 add-counts : tie.Need-add-counts Inv-loop μ-loop
 add-counts c =
-    record {
-      fits = omega (arith, c .before .before .before .before .before .before .pre .1 (c .before .before .before .loop .k) (omega arith), c .number .ensures .1);
-    }
+    let k = c .before .before .before .before .loop .k in
+    let old = c .before .before .before .before .before .pre .2 k (omega arith) in
+    let same = c .before .before .before .before .loop .inv .0 .same k (omega arith) in
+    record { fits = omega (arith, old, same, c .before .number .ensures .1) }
 
-array-write-counts : tie.Need-array-write-counts Inv-loop μ-loop
-array-write-counts c = search needs
+element-write-counts : tie.Need-element-write-counts Inv-loop μ-loop
+element-write-counts c = search needs
 
-array-read-smaller : tie.Need-array-read-smaller Inv-loop μ-loop
-array-read-smaller c = search needs
+element-copy-out-smaller : tie.Need-element-copy-out-smaller Inv-loop μ-loop
+element-copy-out-smaller c = search needs
 
 group-if-requires : tie.Need-group-if-requires Inv-loop μ-loop
 group-if-requires c κs = search needs
@@ -52,8 +52,8 @@ group-if-requires c κs = search needs
 smaller-requires : tie.Need-smaller-requires Inv-loop μ-loop
 smaller-requires c κs = search needs
 
-array-write-lowest : tie.Need-array-write-lowest Inv-loop μ-loop
-array-write-lowest c = search needs
+element-write-lowest : tie.Need-element-write-lowest Inv-loop μ-loop
+element-write-lowest c = search needs
 
 add-k : tie.Need-add-k Inv-loop μ-loop
 add-k c = search needs
@@ -63,12 +63,19 @@ loop-less c = search needs
 
 loop-again : tie.Need-loop-again Inv-loop μ-loop
 loop-again c = (
-  fill-next (c .before .before .before .before .before .loop .inv .0) _ (omega arith) (rw (c .before .before .number .ensures .0)),
-  fill-next (c .before .before .before .before .before .loop .inv .1) _ (omega arith) (rw (c .smaller .ensures, c .before .group-if .ensures)),
+  change-next (c .before .before .before .before .before .before .before .loop .inv .0) _ (omega arith)
+      (rw (c .before .before .before .before .number .ensures .0)),
+  change-next (c .before .before .before .before .before .before .before .loop .inv .1) _ (omega arith)
+      (rw (c .smaller .ensures, c .before .group-if .ensures)),
 )
 
 returns : tie.Need-returns Inv-loop μ-loop
-returns c = record { count = fill-end (c .before .loop .inv .0) (omega arith); low = fill-end (c .before .loop .inv .1) (omega arith) }
+returns c =
+    record {
+      count = change-end (c .before .loop .inv .0) (omega arith);
+      low = change-end (c .before .loop .inv .1) (omega arith);
+      sized = record { counts = c .before .loop .inv .0 .size; lowest = c .before .loop .inv .1 .size };
+    }
 
 pub count-slice-spec : {M : Type 1} → statement M
 count-slice-spec =
@@ -79,14 +86,14 @@ count-slice-spec =
     loop-holds
     add-shows
     element-copy-out-shows
-    array-read-counts
     number-requires
+    element-copy-out-counts
     add-counts
-    array-write-counts
-    array-read-smaller
+    element-write-counts
+    element-copy-out-smaller
     group-if-requires
     smaller-requires
-    array-write-lowest
+    element-write-lowest
     add-k
     loop-less
     loop-again

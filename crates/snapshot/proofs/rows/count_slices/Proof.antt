@@ -1,25 +1,31 @@
 -- `count_slices` meets its contract. The loop's invariant is `Counted` of the groups below g. The measure is the number of groups left.
-use Prim.Native.Nat.{_≤_, _-_}
+use Prim.Native.Nat.{ℕ, _≤_, _-_}
 use native.Mathlib.Omega.{arith}
 use mathlib.Core.Path.{_≡_}
+use lib.ListN.{length-replicate}
 use borrow.Author.Needs.{needs}
-use Rattle.model.specs.Limits.{groups}
-use Rattle.snapshot.specs.Rows.{Counted}
+use Rattle.model.specs.Limits.{keys, groups}
+use Rattle.snapshot.specs.Rows.{Sized, Counted}
 use Rattle.snapshot.proofs.Counting.{counted-none, counted-skip, counted-next, counted-le}
 use Rattle.snapshot.proofs.rows.count_slices.Statement.{statement}
 use Rattle.snapshot.proofs.rows.count_slices.Tie as tie
 
 abbrev Inv-loop : tie.InvT-loop
-Inv-loop present slices shown₀ g₀ shown g = (g ≤ groups) × Counted slices present g shown
+Inv-loop present slices counts₀ lowest₀ g₀ counts lowest g =
+    (g ≤ groups) × Sized (record { counts = counts; lowest = lowest }) × Counted slices present g (record { counts = counts; lowest = lowest })
 
 abbrev μ-loop : tie.MeasureT-loop
-μ-loop present slices shown₀ g₀ shown g = groups - g
+μ-loop present slices counts₀ lowest₀ g₀ counts lowest g = groups - g
 
-cast-t9 : tie.Need-cast-t9 Inv-loop μ-loop
-cast-t9 c = search needs
+cast-lowest : tie.Need-cast-lowest Inv-loop μ-loop
+cast-lowest c = search needs
 
 loop-holds : tie.Need-loop-holds Inv-loop μ-loop
-loop-holds c = (omega arith, counted-none _ _)
+loop-holds c = (
+  omega arith,
+  record { counts = length-replicate {A = ℕ} keys 0; lowest = length-replicate {A = ℕ} keys groups },
+  counted-none _ _,
+)
 
 array-read-slice : tie.Need-array-read-slice Inv-loop μ-loop
 array-read-slice c = search needs
@@ -35,8 +41,13 @@ cast-count-slice c = search needs
 
 count-slice-requires : tie.Need-count-slice-requires Inv-loop μ-loop
 count-slice-requires c κs = (
-  omega (arith, c .before .before .before .before .pre (c .before .before .before .loop .g) (omega arith), c .row-at .ensures .0),
-  counted-le _ _ (c .before .before .before .loop .inv .1) (c .before .before .before .loop .inv .0),
+  c .before .before .before .before .before .loop .inv .1,
+  omega (
+    arith,
+    c .before .before .before .before .before .before .pre (c .before .before .before .before .before .loop .g) (omega arith),
+    c .before .before .row-at .ensures .0,
+  ),
+  counted-le _ _ (c .before .before .before .before .before .loop .inv .2) (c .before .before .before .before .before .loop .inv .0),
 )
 
 loop-less : tie.Need-loop-less Inv-loop μ-loop
@@ -45,17 +56,22 @@ loop-less c = search needs
 loop-again : tie.Need-loop-again Inv-loop μ-loop
 loop-again c = (
   omega arith,
-  counted-next _ _ (c .before .before .before .before .loop .inv .1) (c .before .before .if1 .taken) (c .before .row-at .ensures .0) (c .count-slice .ensures),
+  c .count-slice .ensures .sized,
+  counted-next _ _
+      (c .before .before .before .before .before .before .loop .inv .2)
+      (c .before .before .before .before .if1 .taken)
+      (c .before .before .before .row-at .ensures .0)
+      (c .count-slice .ensures),
 )
 
 loop-less-2 : tie.Need-loop-less-2 Inv-loop μ-loop
 loop-less-2 c = search needs
 
 loop-again-2 : tie.Need-loop-again-2 Inv-loop μ-loop
-loop-again-2 c = (omega arith, counted-skip _ _ (c .before .before .loop .inv .1) (omega arith))
+loop-again-2 c = (omega arith, c .before .before .loop .inv .1, counted-skip _ _ (c .before .before .loop .inv .2) (omega arith))
 
 returns : tie.Need-returns Inv-loop μ-loop
-returns c = let e : c .before .loop .g ≡ groups = omega arith in rw e at (c .before .loop .inv .1)
+returns c = let e : c .before .loop .g ≡ groups = omega arith in rw e at (c .before .loop .inv .2)
 
 pub count-slices-spec : {M : Type 1} → statement M
 count-slices-spec =
@@ -63,7 +79,7 @@ count-slices-spec =
     (tie.spec
     Inv-loop
     μ-loop
-    cast-t9
+    cast-lowest
     loop-holds
     array-read-slice
     add-g
