@@ -9,9 +9,10 @@ use Rattle.leb128.specs.declared.Decoded.{Decoded}
 use Rattle.leb128.specs.declared.Decoded.the-variants.{Number, Stop}
 use Rattle.model.specs.Counting.{eachBelow, listBelow}
 use Rattle.model.specs.Limits.{writers, keys, timestamps}
-use Rattle.model.specs.State.{State, fresh, newest}
+use Rattle.model.specs.State.{fresh, newest}
 use Rattle.model.specs.Range.{inRange, writersInRange, indexInRange, instantsInRange, noneAbove}
-use Rattle.model.specs.Rules.{Answered, copied, sliced, start, lookUp, readBase, writeSlice, enterIndex, checkConflict, commit, abort, act, step}
+use Rattle.model.specs.Rules.{copied, sliced, start, lookUp, readBase, writeSlice, enterIndex, checkConflict, commit, abort, act, step}
+use Rattle.model.specs.Machine.{answersFrom, answersTo}
 use Rattle.model.specs.Snapshot.{Listed, rowsAt, numbers, scan}
 use Rattle.model.specs.Isolation.{executed, next, after}
 use Rattle.model.specs.declared.Operation.{Operation}
@@ -32,11 +33,6 @@ abbrev pub decodedNumbers : Decoded → List ℕ
 decodedNumbers (Number value next) = value ∷ next ∷ []
 decodedNumbers (Stop stop) = stop ∷ []
 
--- the answers to steps
-unfoldable pub answersTo : State → List Step → List ℕ
-answersTo st [] = []
-answersTo st (s ∷ ss) = let r : Answered = step st s in r .answer ∷ answersTo (r .state) ss
-
 -- the answer of a scan, its row count and the lent numbers
 abbrev pub listedNumbers : Listed → List ℕ
 listedNumbers l = l .answer ∷ l .count ∷ l .buffer
@@ -45,7 +41,7 @@ listedNumbers l = l .answer ∷ l .count ∷ l .buffer
 unfoldable pub outcome : Case → List ℕ
 outcome (encode n) = encoded n
 outcome (decode bytes) = decodedNumbers (decodedAt bytes 0)
-outcome (steps ss) = answersTo fresh ss
+outcome (steps ss) = answersTo ss
 outcome (scanned ss t room) = listedNumbers (scan (after ss .state) t (replicate room 0))
 
 -- a case and the outcome that document 01 states
@@ -118,5 +114,5 @@ traces =
     ∷ []
 
 pub traces-hold : map (λ (t : Trace). outcome (t .case)) traces ≡ map (λ (t : Trace). t .stated) traces
-unfolding traces outcome encoded encodedIn decodedAt decodedIn answersTo executed next step act start lookUp readBase writeSlice enterIndex checkConflict commit abort inRange eachBelow writersInRange indexInRange instantsInRange noneAbove newest copied sliced fresh scan rowsAt numbers listBelow
+unfolding traces outcome encoded encodedIn decodedAt decodedIn answersFrom executed next step act start lookUp readBase writeSlice enterIndex checkConflict commit abort inRange eachBelow writersInRange indexInRange instantsInRange noneAbove newest copied sliced fresh scan rowsAt numbers listBelow
 traces-hold = refl

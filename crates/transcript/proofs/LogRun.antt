@@ -56,11 +56,11 @@ module _ (log answers : List ℕ) where
   -- each answer has its place, and the answers keep their length
   count-within : run .count ≤ length answers
   unfolding runOf
-  count-within = count-fits _ _ (ofLog log) fresh answers
+  count-within = count-fits _ (ofLog log) fresh answers
 
   same-places : length (run .answers) ≡ length answers
   unfolding runOf
-  same-places = answers-length _ _ (ofLog log) fresh answers
+  same-places = answers-length _ (ofLog log) fresh answers
 
   pub rows-of-history : (t : ℕ) → rowsAt (run .state .shared) t ≡ listing (after steps .history) t
   rows-of-history t = rw (run-state answers (ofLog log)) (rows-listed (after steps) (reached steps) t)

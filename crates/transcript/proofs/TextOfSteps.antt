@@ -11,6 +11,7 @@ use lib.ListN.{length, getD, take, drop, replicate, length-replicate, length-app
 use lib.Seq.{take-all}
 use borrow.Author.Tests.{le-ltb, eq-eqb, ne-eqb}
 use Rattle.model.specs.State.{State, fresh}
+use Rattle.model.specs.Machine.{answersTo}
 use Rattle.model.specs.Snapshot.{rowsAt}
 use Rattle.model.specs.History.{listing}
 use Rattle.model.specs.Isolation.{after}
@@ -24,7 +25,7 @@ use Rattle.run.specs.Runs.{ofLog, takenFrom, Run, runOf}
 use Rattle.run.proofs.Taken.{run-taken, answers-taken}
 use Rattle.run.proofs.LogAsList.{placesFor, log-taken}
 use Rattle.run.proofs.RunState.{run-state}
-use Rattle.transcript.specs.Transcript.{maxLog, maxAnswers, reported, transcript, answersOf, stepsText}
+use Rattle.transcript.specs.Transcript.{maxLog, maxAnswers, reported, transcript, stepsText}
 use Rattle.transcript.proofs.LogRun.{rows-of-history}
 
 module _ (log answers : List ℕ) where
@@ -40,13 +41,13 @@ module _ (log answers : List ℕ) where
   rows-listed : rowsAt (run .state .shared) (run .state .shared .last) ≡ listing (after (taken .steps) .history) (after (taken .steps) .history .last)
   rows-listed = rows-of-history log answers _ ∙ ap (listing (after (taken .steps) .history)) last-issued
 
-  answers-given : take (run .count) (run .answers) ≡ answersOf (taken .steps)
+  answers-given : take (run .count) (run .answers) ≡ answersTo (taken .steps)
   unfolding runOf
-  answers-given = answers-taken _ _ (ofLog log) fresh answers
+  answers-given = answers-taken _ (ofLog log) fresh answers
 
   ended : (run .stop ≡ taken .stop) × (run .offset ≡ taken .offset)
   unfolding runOf
-  ended = let is = run-taken _ _ (ofLog log) fresh answers in (ap (λ (r : Run State). r .stop) is, ap (λ (r : Run State). r .offset) is)
+  ended = let is = run-taken _ (ofLog log) fresh answers in (ap (λ (r : Run State). r .stop) is, ap (λ (r : Run State). r .offset) is)
 
   run-reported : reported run ≡ stepsText taken
   run-reported = rw (answers-given, ended .0, ended .1, rows-listed)
