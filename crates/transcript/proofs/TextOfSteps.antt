@@ -8,7 +8,6 @@ use mathlib.Core.List.{List}
 use mathlib.Core.Logic.{_≢_, by-cases}
 use mathlib.Core.Path.{_≡_, sym, ap, _∙_}
 use lib.ListN.{length, getD, take, drop, replicate, length-replicate, length-append}
-use lib.Seq.{take-all}
 use borrow.Author.Tests.{le-ltb, eq-eqb, ne-eqb}
 use Rattle.model.specs.State.{State, fresh}
 use Rattle.model.specs.Machine.{answersTo}
@@ -23,7 +22,7 @@ use Rattle.steplog.proofs.EndOfLog.{at-end}
 use Rattle.steplog.proofs.RoundTrip.{log-stops}
 use Rattle.run.specs.Runs.{ofLog, takenFrom, Run, runOf}
 use Rattle.run.proofs.Taken.{run-taken, answers-taken}
-use Rattle.run.proofs.LogAsList.{placesFor, log-taken}
+use Rattle.run.proofs.LogAsList.{placesFor, log-taken-whole}
 use Rattle.run.proofs.RunState.{run-state}
 use Rattle.transcript.specs.Transcript.{maxLog, maxAnswers, reported, transcript, stepsText}
 use Rattle.transcript.proofs.LogRun.{rows-of-history}
@@ -76,11 +75,5 @@ module _ (log : List ℕ) (are-bytes : (i : ℕ) → getD log i 0 < 256) (short 
       (λ e. rw (eq-eqb _ _ e) (omega (arith, all, steps-most (reads .steps))))
       (λ ne. rw (ne-eqb _ _ ne) (omega (arith, at .behind, stops-inside ne, steps-most (reads .steps))))
 
-  all-taken : takenFrom (ofLog log) maxAnswers 0 ≡ reads
-  all-taken =
-      let whole : take maxAnswers (reads .steps) ≡ reads .steps = take-all maxAnswers (reads .steps) (omega (arith, places-enough)) in
-      let offset : length (encodedSteps (reads .steps)) ≡ reads .offset = omega (arith, log-stops log are-bytes .bytes .behind) in
-      rw (log-taken log are-bytes maxAnswers, le-ltb _ _ places-enough, whole, offset)
-
   pub log-printed : transcript log ≡ stepsText reads
-  log-printed = rw (← all-taken) (taken-printed log short)
+  log-printed = rw (← log-taken-whole log are-bytes maxAnswers places-enough) (taken-printed log short)
