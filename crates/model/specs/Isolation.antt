@@ -1,7 +1,7 @@
 -- Demand 3 of document 00, over document 01's "The book behind demand 3": the statement. The theorem is `isolated` in proofs/Isolation.antt.
 use Prim.Native.Nat.{ℕ, _*_, _≤_, _<_}
 use mathlib.Core.Path.{_≡_}
-use mathlib.Core.List.{List, [], _∷_, _++_, List·Memᴰ}
+use mathlib.Core.List.{List, _++_, foldl, List·Memᴰ}
 use mathlib.Core.Option.{Option, some}
 use lib.ListN.{length}
 use Rattle.model.specs.State.{State, fresh, cell}
@@ -34,8 +34,7 @@ next u s = answeredBy u s (step (u .state) s)
 
 -- "Each step gets the table that the last one returned, and nobody else writes it."
 unfoldable pub executed : Execution → List Step → Execution
-executed u [] = u
-executed u (s ∷ ss) = executed (next u s) ss
+executed u ss = foldl next u ss
 
 -- "any list of steps, refused ones included, from a fresh table"
 abbrev pub beginning : Execution

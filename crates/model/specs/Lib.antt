@@ -4,6 +4,7 @@ pub mod Counting
 pub mod State
 pub mod Range
 pub mod Rules
+pub mod Machine
 pub mod Snapshot
 pub mod Calls
 pub mod History

@@ -5,4 +5,3 @@ pub mod Taken
 pub mod LogAsList
 pub mod RunState
 pub mod ListRuns
-pub mod Reborrows

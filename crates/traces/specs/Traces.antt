@@ -8,10 +8,10 @@ use Rattle.leb128.specs.Coding.{encodedIn, encoded, decodedIn, decodedAt}
 use Rattle.leb128.specs.declared.Decoded.{Decoded}
 use Rattle.leb128.specs.declared.Decoded.the-variants.{Number, Stop}
 use Rattle.model.specs.Counting.{eachBelow, listBelow}
-use Rattle.model.specs.Limits.{writers, keys, timestamps}
-use Rattle.model.specs.State.{State, fresh, newest, cell}
+use Rattle.model.specs.State.{fresh, newest, cell}
 use Rattle.model.specs.Range.{inRange, writersInRange, indexInRange, instantsInRange, noneAbove}
-use Rattle.model.specs.Rules.{Answered, copied, sliced, start, lookUp, readBase, writeSlice, enterIndex, checkConflict, commit, abort, act, step}
+use Rattle.model.specs.Rules.{copied, sliced, start, lookUp, readBase, writeSlice, enterIndex, checkConflict, commit, abort, act, step}
+use Rattle.model.specs.Machine.{answersFrom, answersTo}
 use Rattle.model.specs.Snapshot.{Listed, rowsAt, numbers, scan}
 use Rattle.model.specs.Isolation.{executed, next, after}
 use Rattle.model.specs.declared.Operation.{Operation}
@@ -32,11 +32,6 @@ abbrev pub decodedNumbers : Decoded → List ℕ
 decodedNumbers (Number value next) = value ∷ next ∷ []
 decodedNumbers (Stop stop) = stop ∷ []
 
--- the answers to steps
-unfoldable pub answersTo : State → List Step → List ℕ
-answersTo st [] = []
-answersTo st (s ∷ ss) = let r : Answered = step st s in r .answer ∷ answersTo (r .state) ss
-
 -- the answer of a scan, its row count and the lent numbers
 abbrev pub listedNumbers : Listed → List ℕ
 listedNumbers l = l .answer ∷ l .count ∷ l .buffer
@@ -45,7 +40,7 @@ listedNumbers l = l .answer ∷ l .count ∷ l .buffer
 unfoldable pub outcome : Case → List ℕ
 outcome (encode n) = encoded n
 outcome (decode bytes) = decodedNumbers (decodedAt bytes 0)
-outcome (steps ss) = answersTo fresh ss
+outcome (steps ss) = answersTo ss
 outcome (scanned ss t room) = listedNumbers (scan (after ss .state) t (replicate room 0))
 
 -- a case and the outcome that document 01 states
@@ -109,14 +104,14 @@ traces =
     ∷ (steps p6 gives 0 ∷ 0 ∷ 0 ∷ 0 ∷ 0 ∷ 0 ∷ 0 ∷ 0 ∷ 1 ∷ 0 ∷ 0 ∷ 4 ∷ [])  -- P6
     ∷ (steps p7 gives 0 ∷ 0 ∷ 0 ∷ 0 ∷ 0 ∷ 0 ∷ 0 ∷ 0 ∷ 1 ∷ 0 ∷ 0 ∷ 0 ∷ 0 ∷ 0 ∷ 1 ∷ 0 ∷ 3 ∷ [])  -- P7
     ∷ (steps (does 0 (Start (Remove 0)) ∷ does 0 LookUp ∷ []) gives 0 ∷ 2 ∷ [])  -- P8
-    ∷ (steps (does writers (Start (Put 0 0 0)) ∷ does writers (Start (Put keys 0 0)) ∷ []) gives 10 ∷ 10 ∷ [])  -- P9
+    ∷ (steps (does 8 (Start (Put 0 0 0)) ∷ does 8 (Start (Put 32 0 0)) ∷ []) gives 10 ∷ 10 ∷ [])  -- P9
     ∷ (scanned p10 3 6 gives 0 ∷ 2 ∷ 1 ∷ 10 ∷ 1 ∷ 2 ∷ 20 ∷ 2 ∷ [])  -- P10
     ∷ (scanned p10 4 6 gives 0 ∷ 2 ∷ 1 ∷ 10 ∷ 1 ∷ 2 ∷ 21 ∷ 2 ∷ [])  -- P10
     ∷ (scanned (p10 ++ restOf 0) 3 6 gives 0 ∷ 2 ∷ 1 ∷ 11 ∷ 1 ∷ 2 ∷ 20 ∷ 2 ∷ [])  -- P10, then 3 commits
     ∷ (scanned p10 4 5 gives 31 ∷ 0 ∷ 0 ∷ 0 ∷ 0 ∷ 0 ∷ 0 ∷ [])  -- two rows: room for 5 numbers
-    ∷ (steps (listBelow timestamps startAndAbort ++ startAndAbort 0) gives listBelow timestamps (λ n. 0 ∷ 6 ∷ []) ++ 15 ∷ 14 ∷ [])  -- "64th start 0, 65th 15"
+    ∷ (steps (listBelow 64 startAndAbort ++ startAndAbort 0) gives listBelow 64 (λ n. 0 ∷ 6 ∷ []) ++ 15 ∷ 14 ∷ [])  -- "64th start 0, 65th 15"
     ∷ []
 
 pub traces-hold : map (λ (t : Trace). outcome (t .case)) traces ≡ map (λ (t : Trace). t .stated) traces
-unfolding traces outcome encoded encodedIn decodedAt decodedIn answersTo executed next step act start lookUp readBase writeSlice enterIndex checkConflict commit abort inRange eachBelow writersInRange indexInRange instantsInRange noneAbove newest cell copied sliced fresh scan rowsAt numbers listBelow
+unfolding traces outcome encoded encodedIn decodedAt decodedIn answersFrom executed next step act start lookUp readBase writeSlice enterIndex checkConflict commit abort inRange eachBelow writersInRange indexInRange instantsInRange noneAbove newest cell copied sliced fresh scan rowsAt numbers listBelow
 traces-hold = refl

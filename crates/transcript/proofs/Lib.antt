@@ -1,5 +1,4 @@
 pub mod Decimal
-pub mod Pieces
 pub mod Parts
 pub mod Lines
 pub mod Sizes

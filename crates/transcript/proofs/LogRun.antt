@@ -19,10 +19,10 @@ use Rattle.model.specs.Isolation.{after}
 use Rattle.model.specs.declared.Operation.{Operation}
 use Rattle.model.specs.declared.Operation.the-variants.{Put, Remove}
 use Rattle.model.specs.declared.Step.{Step}
+use Rattle.model.proofs.ListBelow.{length-below}
 use Rattle.model.proofs.Listing.{rows-listed}
 use Rattle.model.proofs.Isolation.{reached, isolated}
-use Rattle.snapshot.proofs.Lists.{length-most}
-use Rattle.steplog.proofs.Pasting.{PastedTo}
+use Rattle.steplog.specs.Writing.{PastedTo}
 use Rattle.run.specs.Runs.{ofLog, takenFrom, Run, runOf}
 use Rattle.run.proofs.Taken.{count-fits, answers-length}
 use Rattle.run.proofs.RunState.{run-state}
@@ -43,7 +43,7 @@ one-row (some c) = one-put (c .operation) (c .group)
 
 listing-within : (h : History) (t : ℕ) → length (listing h t) ≤ keys
 unfolding listing
-listing-within h t = length-most keys _ (λ k. one-row (newestOn (h .done) k t))
+listing-within h t = length-below 1 keys _ (λ k. one-row (newestOn (h .done) k t))
 
 module _ (log answers : List ℕ) where
   -- the run, and the steps that it takes
@@ -56,11 +56,11 @@ module _ (log answers : List ℕ) where
   -- each answer has its place, and the answers keep their length
   count-within : run .count ≤ length answers
   unfolding runOf
-  count-within = count-fits _ _ (ofLog log) fresh answers
+  count-within = count-fits _ (ofLog log) fresh answers
 
   same-places : length (run .answers) ≡ length answers
   unfolding runOf
-  same-places = answers-length _ _ (ofLog log) fresh answers
+  same-places = answers-length _ (ofLog log) fresh answers
 
   pub rows-of-history : (t : ℕ) → rowsAt (run .state .shared) t ≡ listing (after steps .history) t
   rows-of-history t = rw (run-state answers (ofLog log)) (rows-listed (after steps) (reached steps) t)

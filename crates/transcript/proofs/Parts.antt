@@ -1,6 +1,6 @@
 -- Parts 0, 1, .. of a text, put one behind the other by a loop: `Putting` holds at each turn, by `starts` before the first and `goes-on` after each;
 -- the next part has room (`part-fits`), the text keeps its length (`same-length`), and `ends` gives what is left behind.
-use mathlib.Core.Path.{_≡_, sym}
+use mathlib.Core.Path.{_≡_}
 use mathlib.Core.List.{List, [], _∷_}
 use mathlib.Core.Logic.{by-cases}
 use Prim.Native.Nat.{ℕ, zero, suc, _+_, _≤_, _<_}
@@ -9,8 +9,9 @@ use native.Mathlib.Numerals.{add-one}
 use native.Mathlib.Omega.{arith}
 use lib.ListN.{length, length-append}
 use Rattle.model.specs.Counting.{listBelow}
-use Rattle.steplog.proofs.Pasting.{PastedTo, pasted-none, pasted-length}
-use Rattle.transcript.proofs.Pieces.{Fits, both-fit, first-fits, rest-fits, last-joined}
+use Rattle.steplog.specs.Writing.{PastedTo}
+use Rattle.steplog.proofs.Pasting.{pasted-length}
+use Rattle.steplog.proofs.Pieces.{Fits, first-fits, rest-fits, none-pasted, both-fit, last-joined}
 
 -- the parts below i are put, and those below count have room
 pub record Putting (part : ℕ → List ℕ) (count : ℕ) (text₀ : List ℕ) (at₀ : ℕ) (text : List ℕ) (at i : ℕ) : Type 0 where
@@ -20,7 +21,7 @@ pub record Putting (part : ℕ → List ℕ) (count : ℕ) (text₀ : List ℕ) 
 
 pub starts : (part : ℕ → List ℕ) (count : ℕ) (text : List ℕ) (at : ℕ) → at + length (listBelow count part) ≤ length text → Putting part count text at text at 0
 unfolding listBelow
-starts part count text at h = record { upto = omega arith; room = h; put = (omega arith, sym (pasted-none text at)) }
+starts part count text at h = record { upto = omega arith; room = h; put = none-pasted text at }
 
 -- fewer parts are no longer
 fewer-parts : (part : ℕ → List ℕ) (n i : ℕ) → i ≤ n → length (listBelow i part) ≤ length (listBelow n part)

@@ -13,10 +13,11 @@ use native.Mathlib.Decide.{decLt}
 use native.Mathlib.Nat.{pow-succ'}
 use native.Mathlib.Omega.{arith}
 use lib.ListN.{length, take, getD, length-append}
-use Rattle.model.specs.Counting.{listBelow}
 use Rattle.model.specs.Snapshot.{Row}
+use Rattle.model.proofs.ListBelow.{length-below}
 use Rattle.transcript.specs.Text.{newline, maxDigits, decimalIn, decimal, field, answerLines, stopLine, rowLine, rowOf, numberLines, runText, runRoom}
 use Rattle.transcript.proofs.Decimal.{short-in, long-in}
+use Rattle.transcript.proofs.Lines.{answers-below}
 
 -- ---- numbers
 most-in : (k n : ℕ) → length (decimalIn k n) ≤ suc k
@@ -51,11 +52,9 @@ unfolding field
 field-length n end = length-append (decimal n) (end ∷ [])
 
 -- ---- lines
-answers-most : (answers : List ℕ) → ((i : ℕ) → getD answers i 0 < 256) → (n : ℕ) → length (answerLines (take n answers)) ≤ 4 * n
-unfolding answerLines
-answers-most answers bytes zero = omega arith
-answers-most [] bytes (suc n) = omega arith
-answers-most (a ∷ answers) bytes (suc n) = rw length-append (omega (arith, field-length a newline, byte-within a (bytes 0), answers-most answers (λ i. bytes (suc i)) n))
+answers-most : (answers : List ℕ) → ((i : ℕ) → getD answers i 0 < 256) → (count : ℕ) → count ≤ length answers → length (answerLines (take count answers)) ≤ 4 * count
+answers-most answers bytes count all =
+    rw (← answers-below answers count all) (length-below 4 count _ (λ i. omega (arith, field-length (getD answers i 0) newline, byte-within (getD answers i 0) (bytes i))))
 
 stop-most : (stop offset : ℕ) → stop < 256 → length (stopLine stop offset) ≤ 33
 unfolding stopLine
@@ -67,12 +66,11 @@ row-most r =
     simp (length-append, field-length) (omega (arith, decimal-most (r .key), decimal-most (r .value), decimal-most (r .group)))
 
 rows-most : (ns : List ℕ) (count : ℕ) → length (numberLines ns count) ≤ 63 * count
-unfolding numberLines listBelow
-rows-most ns zero = omega arith
-rows-most ns (suc n) = rw length-append (omega (arith, row-most (rowOf ns n), rows-most ns n))
+unfolding numberLines
+rows-most ns count = length-below 63 count _ (λ i. row-most (rowOf ns i))
 
-pub run-most : (answers : List ℕ) (count stop offset : ℕ) (ns : List ℕ) (rows : ℕ) → ((i : ℕ) → getD answers i 0 < 256) → stop < 256
+pub run-most : (answers : List ℕ) (count stop offset : ℕ) (ns : List ℕ) (rows : ℕ) → ((i : ℕ) → getD answers i 0 < 256) → count ≤ length answers → stop < 256
     → length (runText (take count answers) stop offset ns rows) ≤ runRoom count rows
 unfolding runText
-run-most answers count stop offset ns rows bytes byte =
-    simp length-append (omega (arith, answers-most answers bytes count, stop-most stop offset byte, rows-most ns rows))
+run-most answers count stop offset ns rows bytes all byte =
+    simp length-append (omega (arith, answers-most answers bytes count all, stop-most stop offset byte, rows-most ns rows))

@@ -8,9 +8,9 @@ use mathlib.Core.List.{List}
 use mathlib.Core.Logic.{_≢_, by-cases}
 use mathlib.Core.Path.{_≡_, sym, ap, _∙_}
 use lib.ListN.{length, getD, take, drop, replicate, length-replicate, length-append}
-use lib.Seq.{take-all}
 use borrow.Author.Tests.{le-ltb, eq-eqb, ne-eqb}
 use Rattle.model.specs.State.{State, fresh}
+use Rattle.model.specs.Machine.{answersTo}
 use Rattle.model.specs.Snapshot.{rowsAt}
 use Rattle.model.specs.History.{listing}
 use Rattle.model.specs.Isolation.{after}
@@ -22,9 +22,9 @@ use Rattle.steplog.proofs.EndOfLog.{at-end}
 use Rattle.steplog.proofs.RoundTrip.{log-stops}
 use Rattle.run.specs.Runs.{ofLog, takenFrom, Run, runOf}
 use Rattle.run.proofs.Taken.{run-taken, answers-taken}
-use Rattle.run.proofs.LogAsList.{placesFor, log-taken}
+use Rattle.run.proofs.LogAsList.{placesFor, log-taken-whole}
 use Rattle.run.proofs.RunState.{run-state}
-use Rattle.transcript.specs.Transcript.{maxLog, maxAnswers, reported, transcript, answersOf, stepsText}
+use Rattle.transcript.specs.Transcript.{maxLog, maxAnswers, reported, transcript, stepsText}
 use Rattle.transcript.proofs.LogRun.{rows-of-history}
 
 module _ (log answers : List ℕ) where
@@ -40,13 +40,13 @@ module _ (log answers : List ℕ) where
   rows-listed : rowsAt (run .state .shared) (run .state .shared .last) ≡ listing (after (taken .steps) .history) (after (taken .steps) .history .last)
   rows-listed = rows-of-history log answers _ ∙ ap (listing (after (taken .steps) .history)) last-issued
 
-  answers-given : take (run .count) (run .answers) ≡ answersOf (taken .steps)
+  answers-given : take (run .count) (run .answers) ≡ answersTo (taken .steps)
   unfolding runOf
-  answers-given = answers-taken _ _ (ofLog log) fresh answers
+  answers-given = answers-taken _ (ofLog log) fresh answers
 
   ended : (run .stop ≡ taken .stop) × (run .offset ≡ taken .offset)
   unfolding runOf
-  ended = let is = run-taken _ _ (ofLog log) fresh answers in (ap (λ (r : Run State). r .stop) is, ap (λ (r : Run State). r .offset) is)
+  ended = let is = run-taken _ (ofLog log) fresh answers in (ap (λ (r : Run State). r .stop) is, ap (λ (r : Run State). r .offset) is)
 
   run-reported : reported run ≡ stepsText taken
   run-reported = rw (answers-given, ended .0, ended .1, rows-listed)
@@ -75,11 +75,5 @@ module _ (log : List ℕ) (are-bytes : (i : ℕ) → getD log i 0 < 256) (short 
       (λ e. rw (eq-eqb _ _ e) (omega (arith, all, steps-most (reads .steps))))
       (λ ne. rw (ne-eqb _ _ ne) (omega (arith, at .behind, stops-inside ne, steps-most (reads .steps))))
 
-  all-taken : takenFrom (ofLog log) maxAnswers 0 ≡ reads
-  all-taken =
-      let whole : take maxAnswers (reads .steps) ≡ reads .steps = take-all maxAnswers (reads .steps) (omega (arith, places-enough)) in
-      let offset : length (encodedSteps (reads .steps)) ≡ reads .offset = omega (arith, log-stops log are-bytes .bytes .behind) in
-      rw (log-taken log are-bytes maxAnswers, le-ltb _ _ places-enough, whole, offset)
-
   pub log-printed : transcript log ≡ stepsText reads
-  log-printed = rw (← all-taken) (taken-printed log short)
+  log-printed = rw (← log-taken-whole log are-bytes maxAnswers places-enough) (taken-printed log short)

@@ -2,7 +2,7 @@
 -- then a scan at the last issued timestamp, `key value group` a line".
 use Prim.Native.Nat.{ℕ, zero, suc, _+_, _-_, _*_, _/_, _%_}
 use mathlib.Core.Bool.{cond}
-use mathlib.Core.List.{List, [], _∷_, _++_}
+use mathlib.Core.List.{List, [], _∷_, _++_, flatten, map}
 use lib.Dec.{ltb}
 use lib.ListN.{getD}
 use Rattle.model.specs.Counting.{listBelow}
@@ -36,8 +36,7 @@ field n end = decimal n ++ end ∷ []
 
 -- each answer on its own line
 unfoldable pub answerLines : List ℕ → List ℕ
-answerLines [] = []
-answerLines (a ∷ rest) = field a newline ++ answerLines rest
+answerLines answers = flatten (map (λ a. field a newline) answers)
 
 -- "stop " and " at "
 abbrev pub stopWord : List ℕ
@@ -53,8 +52,7 @@ unfoldable pub rowLine : Row → List ℕ
 rowLine r = field (r .key) space ++ field (r .value) space ++ field (r .group) newline
 
 unfoldable pub rowLines : List Row → List ℕ
-rowLines [] = []
-rowLines (r ∷ rest) = rowLine r ++ rowLines rest
+rowLines rows = flatten (map rowLine rows)
 
 -- row i of some numbers, three a row, as a scan stores them
 abbrev pub rowOf : List ℕ → ℕ → Row

@@ -6,14 +6,13 @@ use lib.ListN.{length, take, replicate}
 use lib.Dec.{ltb}
 use Rattle.leb128.specs.Coding.{Stored}
 use Rattle.model.specs.State.{State, fresh}
-use Rattle.model.specs.Rules.{step}
+use Rattle.model.specs.Machine.{answersTo}
 use Rattle.model.specs.Snapshot.{rowsAt}
 use Rattle.model.specs.History.{listing}
 use Rattle.model.specs.Isolation.{after}
-use Rattle.model.specs.declared.Step.{Step}
 use Rattle.steplog.specs.Records.{LogRead}
 use Rattle.steplog.specs.Writing.{pasted}
-use Rattle.run.specs.Runs.{Run, ofLog, runOf, answersTo}
+use Rattle.run.specs.Runs.{Run, ofLog, runOf}
 use Rattle.transcript.specs.Text.{answerLines, stopLine, rowLines, tooLong}
 
 -- "program input: 32,768 bytes"
@@ -44,12 +43,8 @@ printed log buffer =
     (record { size = length (transcript log); buffer = pasted buffer 0 (transcript log) })
 
 -- ---- what the law about the text speaks of
--- the answers to some steps from a fresh table
-abbrev pub answersOf : List Step → List ℕ
-answersOf = answersTo (λ st s. step st s .answer) (λ st s. step st s .state) fresh
-
 -- the text of some steps from a fresh table: their answers, where they end, and the rows that their history lists at the last timestamp issued
 abbrev pub stepsText : LogRead → List ℕ
 stepsText t =
-    answerLines (answersOf (t .steps)) ++ stopLine (t .stop) (t .offset)
+    answerLines (answersTo (t .steps)) ++ stopLine (t .stop) (t .offset)
     ++ rowLines (listing (after (t .steps) .history) (after (t .steps) .history .last))

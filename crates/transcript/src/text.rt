@@ -1,9 +1,8 @@
 // Text into a buffer from a place on; each function gives the place behind what it stored.
-ghost use mathlib.Core.Path.{_≡_};
 ghost use Prim.Native.Nat.{_+_, _*_, _≤_};
 ghost use lib.ListN.{length, take};
 ghost use Rattle.model.specs.Snapshot.{row};
-ghost use Rattle.steplog.specs.Writing.{pasted};
+ghost use Rattle.steplog.specs.Writing.{Pastes};
 ghost use Rattle.transcript.specs.Text.{decimal, field, answerLines, stopLine, rowLine, numberLines, runText, runRoom};
 use model::Value;
 
@@ -13,7 +12,7 @@ const ZERO: u64 = 48;
 // A number in decimal: the digits before its last, if there are any, and its last.
 fn put_decimal(text: &mut [u8], at: usize, number: u64) -> usize
     requires { ⌜ at + length (decimal number) ≤ length (now text) ⌝ }
-    ensures { λ r. ⌜ (r ≡ at + length (decimal number)) × (now (text .exit) ≡ pasted (now (text .entry)) at (decimal number)) ⌝ }
+    ensures { λ r. ⌜ Pastes text at (decimal number) r ⌝ }
 {
     if number < 10 {
         text[at] = (ZERO + number) as u8;
@@ -27,7 +26,7 @@ fn put_decimal(text: &mut [u8], at: usize, number: u64) -> usize
 // Bytes as they are.
 pub fn put_bytes(text: &mut [u8], at: usize, bytes: &[u8]) -> usize
     requires { ⌜ at + length (now bytes) ≤ length (now text) ⌝ }
-    ensures { λ r. ⌜ (r ≡ at + length (now (bytes .entry))) × (now (text .exit) ≡ pasted (now (text .entry)) at (now (bytes .entry))) ⌝ }
+    ensures { λ r. ⌜ Pastes text at (now (bytes .entry)) r ⌝ }
 {
     let mut i: usize = 0;
     while i < bytes.len() {
@@ -40,7 +39,7 @@ pub fn put_bytes(text: &mut [u8], at: usize, bytes: &[u8]) -> usize
 // A number in decimal, and the byte behind it.
 fn put_field(text: &mut [u8], at: usize, number: u64, end: u8) -> usize
     requires { ⌜ at + length (field number end) ≤ length (now text) ⌝ }
-    ensures { λ r. ⌜ (r ≡ at + length (field number end)) × (now (text .exit) ≡ pasted (now (text .entry)) at (field number end)) ⌝ }
+    ensures { λ r. ⌜ Pastes text at (field number end) r ⌝ }
 {
     let next = put_decimal(text, at, number);
     text[next] = end;
@@ -50,7 +49,7 @@ fn put_field(text: &mut [u8], at: usize, number: u64, end: u8) -> usize
 // The first `count` answers, each on its own line.
 pub fn put_answers(text: &mut [u8], at: usize, answers: &[u8], count: usize) -> usize
     requires { ⌜ (count ≤ length (now answers)) × (at + length (answerLines (take count (now answers))) ≤ length (now text)) ⌝ }
-    ensures { λ r. ⌜ (r ≡ at + length (answerLines (take count (now (answers .entry))))) × (now (text .exit) ≡ pasted (now (text .entry)) at (answerLines (take count (now (answers .entry))))) ⌝ }
+    ensures { λ r. ⌜ Pastes text at (answerLines (take count (now (answers .entry)))) r ⌝ }
 {
     let mut next = at;
     let mut i: usize = 0;
@@ -64,7 +63,7 @@ pub fn put_answers(text: &mut [u8], at: usize, answers: &[u8], count: usize) -> 
 // The line `stop N at OFFSET`.
 pub fn put_stop(text: &mut [u8], at: usize, stop: u8, offset: usize) -> usize
     requires { ⌜ at + length (stopLine stop offset) ≤ length (now text) ⌝ }
-    ensures { λ r. ⌜ (r ≡ at + length (stopLine stop offset)) × (now (text .exit) ≡ pasted (now (text .entry)) at (stopLine stop offset)) ⌝ }
+    ensures { λ r. ⌜ Pastes text at (stopLine stop offset) r ⌝ }
 {
     let a = put_bytes(text, at, b"stop ");
     let b = put_decimal(text, a, stop as u64);
@@ -75,7 +74,7 @@ pub fn put_stop(text: &mut [u8], at: usize, stop: u8, offset: usize) -> usize
 // The line `key value group` of a row.
 fn put_row(text: &mut [u8], at: usize, key: Value, value: Value, group: Value) -> usize
     requires { ⌜ at + length (rowLine (row key value group)) ≤ length (now text) ⌝ }
-    ensures { λ r. ⌜ (r ≡ at + length (rowLine (row key value group))) × (now (text .exit) ≡ pasted (now (text .entry)) at (rowLine (row key value group))) ⌝ }
+    ensures { λ r. ⌜ Pastes text at (rowLine (row key value group)) r ⌝ }
 {
     let a = put_field(text, at, key as u64, b' ');
     let b = put_field(text, a, value as u64, b' ');
@@ -85,7 +84,7 @@ fn put_row(text: &mut [u8], at: usize, key: Value, value: Value, group: Value) -
 // The first `count` rows of some numbers, three a row, each on its own line.
 pub fn put_rows(text: &mut [u8], at: usize, numbers: &[Value], count: usize) -> usize
     requires { ⌜ (3 * count ≤ length (now numbers)) × (at + length (numberLines (now numbers) count) ≤ length (now text)) ⌝ }
-    ensures { λ r. ⌜ (r ≡ at + length (numberLines (now (numbers .entry)) count)) × (now (text .exit) ≡ pasted (now (text .entry)) at (numberLines (now (numbers .entry)) count)) ⌝ }
+    ensures { λ r. ⌜ Pastes text at (numberLines (now (numbers .entry)) count) r ⌝ }
 {
     let mut next = at;
     let mut row: usize = 0;
@@ -114,7 +113,7 @@ pub fn put_run(
     rows: usize,
 ) -> usize
     requires { ⌜ (count ≤ length (now answers)) × (3 * rows ≤ length (now numbers)) × (runRoom count rows ≤ length (now text)) ⌝ }
-    ensures { λ r. ⌜ (r ≡ 0 + length (runText (take count (now (answers .entry))) stop offset (now (numbers .entry)) rows)) × (now (text .exit) ≡ pasted (now (text .entry)) 0 (runText (take count (now (answers .entry))) stop offset (now (numbers .entry)) rows)) ⌝ }
+    ensures { λ r. ⌜ Pastes text 0 (runText (take count (now (answers .entry))) stop offset (now (numbers .entry)) rows) r ⌝ }
 {
     let a = put_answers(text, 0, answers, count);
     let b = put_stop(text, a, stop, offset);

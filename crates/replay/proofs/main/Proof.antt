@@ -27,11 +27,15 @@ write-all-requires c κs = search needs
 returns : tie.Need-returns
 returns c = search needs
 
+-- the bytes read are the first of the buffer
+read : (c : tie.After-known-told) → Counts (c .before .found .given .0 .0) (c .before .before .before .before .read-input .last .0)
+read c = rw (c .before .found .given .1) at (c .before .before .before .before .read-input .ensures)
+
 array-share-prefix-input : tie.Need-array-share-prefix-input
-array-share-prefix-input c = let read : Counts (c .before .found .given .0 .0) (c .before .before .before .before .read-input .last .0) = rw (c .before .found .given .1) at (c .before .before .before .before .read-input .ensures) in search needs
+array-share-prefix-input c = let bytes = read c in search needs
 
 slice-aggregate-transcribe : tie.Need-slice-aggregate-transcribe
-slice-aggregate-transcribe c = let read : Counts (c .before .before .found .given .0 .0) (c .before .before .before .before .before .read-input .last .0) = rw (c .before .before .found .given .1) at (c .before .before .before .before .before .read-input .ensures) in read .1
+slice-aggregate-transcribe c = read (c .before) .1
 
 slice-aggregate-transcribe-2 : tie.Need-slice-aggregate-transcribe-2
 slice-aggregate-transcribe-2 c = search needs

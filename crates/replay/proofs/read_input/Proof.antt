@@ -47,14 +47,18 @@ same-length-2 c = search needs
 returns-2 : tie.Need-returns-2 Inv-loop μ-loop
 returns-2 c = counts _ _ (search needs)
 
+-- the bytes of a turn are the first of the part that it was lent
+read : (c : tie.Else1 Inv-loop μ-loop) → Counts (c .before .before .found .given .0 .0) (c .before .before .before .before .before .before .read-some .last .0)
+read c = rw (c .before .before .found .given .1) at (c .before .before .before .before .before .before .read-some .ensures)
+
 add-size : tie.Need-add-size Inv-loop μ-loop
-add-size c = let read : Counts (c .before .before .found .given .0 .0) (c .before .before .before .before .before .before .read-some .last .0) = rw (c .before .before .found .given .1) at (c .before .before .before .before .before .before .read-some .ensures) in search needs
+add-size c = let more = read c in search needs
 
 loop-less : tie.Need-loop-less Inv-loop μ-loop
 loop-less c = search needs
 
 loop-again : tie.Need-loop-again Inv-loop μ-loop
-loop-again c = let read : Counts (c .before .before .found .given .0 .0) (c .before .before .before .before .before .before .read-some .last .0) = rw (c .before .before .found .given .1) at (c .before .before .before .before .before .before .read-some .ensures) in search needs
+loop-again c = let more = read c in search needs
 
 same-length-3 : tie.Need-same-length-3 Inv-loop μ-loop
 same-length-3 c = search needs

@@ -13,11 +13,13 @@ use Rattle.model.proofs.Step as S
 use Rattle.steplog.specs.declared.writing.Written.{Written}
 use Rattle.steplog.specs.Writing.{logWritten, LogWritten}
 use Rattle.steplog.proofs.PlainTypes.{step-laws, written-laws}
-use Rattle.steplog.proofs.Walks.{URA, named, w64, Val, vint, vptr, SProp, ent, emp, via, fst∗, id⊢, Lft, Share, ftrue, flft, Memory, Routine, Heap, Env, WpFn, Tables, Atoms, Fun, givenOf, tablesOf, Given, Item, ‵, raw, _⊛_, ⋆, runs, atRet, Sq, _$_, _∵_, !, qed, by, move, keep, drop, use1, split, join, fsplit, fjoin, feqL, suffices, frame, done, agg, whole, sub, look-in, look, init, stop, hop, fld, from, lit, addr, of-opd, and-then, no-more, returns, params1, pass1, pass0, lft-new, lft-end, owns, Is, u8, usize, RefT, at-last, plain, sliceVal, MutSlice, Room, slice-vals, uint-vals, uint-tells, mut-slice-tells, owned, nothing, onEntry, Triple, cited, says, Stays, stay-none, stay-slice, walkOf, goes-none, goes-slice, ends-at, yes, Plain, of-word, word, Blocks, locals, spots, enters, frees-all, get, get-field, sets, lands-in, Callee, calls-on, calls-plain, owned-all, told, token-in, refTo, renamed, lends-again, comes-back, tablesAt, met-by}
+use Rattle.steplog.proofs.Walks.{URA, named, w64, Val, vint, vptr, SProp, ent, emp, via, fst∗, id⊢, Lft, Share, ftrue, flft, Memory, Routine, Heap, Env, WpFn, Tables, Atoms, Fun, givenOf, tablesOf, Given, Item, ‵, raw, _⊛_, ⋆, runs, atRet, Sq, _$_, _∵_, !, qed, by, move, keep, drop, use1, split, join, fsplit, fjoin, feqL, suffices, frame, done, agg, whole, sub, look-in, look, init, stop, hop, fld, from, lit, addr, of-opd, and-then, no-more, returns, params1, pass1, pass0, lft-new, lft-end, owns, Is, u8, usize, RefT, at-last, plain, sliceVal, MutSlice, Room, slice-vals, uint-vals, uint-tells, mut-slice-tells, owned, nothing, onEntry, Triple, cited, says, Stays, stay-none, stay-slice, walkOf, goes-none, goes-slice, ends-at, yes}
+use Rattle.steplog.proofs.Walks.{Plain, of-word, word, Blocks, locals, spots, enters, frees-all, get, get-field, sets, lands-in, tablesAt, met-by, of-array}
+use Rattle.steplog.proofs.Calling.{Callee, calls-on, calls-plain, owned-all, told, token-in}
+use Rattle.steplog.proofs.Lending.{refTo, renamed, lends-again, comes-back, lends-array, array-back}
 use Rattle.steplog.proofs.writing.Written as R
 use Rattle.steplog.proofs.write_log as write-log
 use Rattle.stories.specs.Steps.{putAndLookUp}
-use Rattle.stories.proofs.SharedArray.{of-array, lends-array, array-back}
 use Rattle.stories.proofs.writing.put_and_look_up as steps
 use Rattle.stories.proofs.writing.write_two as f
 
@@ -82,7 +84,7 @@ module _ {M : Type 1} (𝓤 : URA M) (H : Heap 𝓤) (A : Atoms 𝓤) (W : Given
         (λ r ws. after r (ws .1 .0) ≡ logWritten putAndLookUp (x .now) at) (λ r ws. id⊢ 𝓤 _) (id⊢ 𝓤 _) (and-then ! (get ! 9 refl) (and-then ! (get ! 11 refl) (and-then ! (get ! 6 refl) (no-more !)))) (λ u r ws is e.
         let w-is = told (written-laws 𝓤 H A W) u is refl in
         -- [the tokens; the result; the last bytes; what is kept of the steps, of the buffer; the other locals]
-        use1 W (‵ (flft (μ ∷ []) fullShare) ⊛ (‵ (flft (ν ∷ []) fullShare) ⊛ ‵ ftrue)) (id⊢ 𝓤 _) $ split ! $ lft-end ! tt $ move ! (0 ∷ 4 ∷ []) $ array-back S.the-row putAndLookUp (μ ∷ []) (tyArray S.Laws.mir 2) (block bs) ! tt refl $
+        use1 W (‵ (flft (μ ∷ []) fullShare) ⊛ (‵ (flft (ν ∷ []) fullShare) ⊛ ‵ ftrue)) (id⊢ 𝓤 _) $ split ! $ lft-end ! tt $ move ! (0 ∷ 4 ∷ []) $ array-back S.the-row putAndLookUp (μ ∷ []) (tyArray S.Laws.mir 2) (block bs) ! tt refl (array-laws .val) (array-laws .tells) $
         -- [the local, empty; ν's token; the result; the last bytes; what is kept of the buffer; the other locals]
         move ! (1 ∷ []) $ split ! $ lft-end ! tt $ move ! (4 ∷ []) $ fsplit ! $ drop ! $ fsplit ! $ fsplit ! $ move ! (1 ∷ []) $ feqL ! (λ len. keep ! (2 ∷ 6 ∷ 0 ∷ 7 ∷ 8 ∷ 9 ∷ 10 ∷ 4 ∷ 11 ∷ 12 ∷ 13 ∷ 14 ∷ 15 ∷ []) $
         comes-back u8 κ (ν ∷ []) q x (v ∷ []) ! tt (named 0) δ (ws .1 .0) len $ lands-in ! (w-is .0) (init ! 3 refl (written-laws 𝓤 H A W .lawful .typed r _ (w-is .1) .0)) $ returns ! (look ! 3 refl) $

@@ -9,7 +9,7 @@ use borrow.Fn.Kinds.{In}
 use borrow.Fn.PlainCycle.{Measures, is, falls, and}
 use Rattle.transcript.specs.Text.{zeroDigit, decimal}
 use Rattle.transcript.proofs.Decimal.{decimal-short, decimal-long}
-use Rattle.transcript.proofs.Pieces.{Fits, both-fit, first-fits, rest-fits, last-joined, byte-pasted}
+use Rattle.steplog.proofs.Pieces.{Fits, both-fit, first-fits, rest-fits, last-joined, byte-pasted}
 use Rattle.transcript.proofs.text.put_decimal.Reads as put-decimal
 use Rattle.transcript.proofs.text.put_decimal.Kinds as put-decimal-kinds
 use Rattle.transcript.proofs.text.+put_decimal.Lts-put_decimal as code

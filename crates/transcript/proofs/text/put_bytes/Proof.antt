@@ -5,7 +5,7 @@ use native.Mathlib.Nat.{add-zero}
 use native.Mathlib.Omega.{arith}
 use lib.ListN.{length}
 use borrow.Author.Needs.{needs}
-use Rattle.transcript.proofs.Pieces.{byte-pasted}
+use Rattle.steplog.proofs.Pieces.{byte-pasted}
 use Rattle.transcript.proofs.Parts as parts
 use Rattle.transcript.proofs.Lines.{byteOf, bytes-below}
 use Rattle.transcript.proofs.text.put_bytes.Statement.{statement}

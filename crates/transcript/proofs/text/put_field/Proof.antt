@@ -3,7 +3,7 @@ use mathlib.Core.List.{[], _∷_}
 use native.Mathlib.Omega.{arith}
 use borrow.Author.Needs.{needs}
 use Rattle.transcript.specs.Text.{decimal, field}
-use Rattle.transcript.proofs.Pieces.{Fits, both-fit, first-fits, rest-fits, last-joined, byte-pasted}
+use Rattle.steplog.proofs.Pieces.{Fits, both-fit, first-fits, rest-fits, last-joined, byte-pasted}
 use Rattle.transcript.proofs.text.put_field.Statement.{statement}
 use Rattle.transcript.proofs.text.put_field.Tie as tie
 

@@ -4,7 +4,7 @@ use native.Mathlib.Omega.{arith}
 use lib.ListN.{take}
 use borrow.Author.Needs.{needs}
 use Rattle.transcript.specs.Text.{answerLines, stopLine, numberLines}
-use Rattle.transcript.proofs.Pieces.{Fits, first-fits, rest-fits, joined, one-piece}
+use Rattle.steplog.proofs.Pieces.{Fits, first-fits, rest-fits, joined, one-piece}
 use Rattle.transcript.proofs.Lines.{run-pieces}
 use Rattle.transcript.proofs.Sizes.{run-most}
 use Rattle.transcript.proofs.text.put_run.Statement.{statement}
@@ -13,7 +13,7 @@ use Rattle.transcript.proofs.text.put_run.Tie as tie
 pieces : (c : tie.After-shared-slice-known) → let a = c .before .before .args in
     Fits (a .text .now) 0 (answerLines (take (a .count) (a .answers .now)) ∷ stopLine (a .stop) (a .offset) ∷ numberLines (a .numbers .now) (a .rows) ∷ [])
 pieces c = let a = c .before .before .args in
-    let most = run-most (a .answers .now) (a .count) (a .stop) (a .offset) (a .numbers .now) (a .rows) (λ i. omega (arith, c .shared-slice-known .given i)) (omega arith) in
+    let most = run-most (a .answers .now) (a .count) (a .stop) (a .offset) (a .numbers .now) (a .rows) (λ i. omega (arith, c .shared-slice-known .given i)) (c .before .before .pre .0) (omega arith) in
     record { room = rw (← run-pieces) (omega (arith, c .before .before .pre .2, most)) }
 
 put-answers-requires : tie.Need-put-answers-requires
