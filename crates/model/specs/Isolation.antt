@@ -12,7 +12,7 @@ use Rattle.model.specs.declared.InstantState.{InstantState}
 use Rattle.model.specs.declared.InstantState.the-variants.{Refused, None, Requested, Inflight, Completed}
 use Rattle.model.specs.declared.Step.{Step}
 
--- the file group that the instant call gives
+-- the file group that the instant call gives; 0 where it gives none, which is never so after an answer 1
 abbrev pub groupGiven : InstantState → ℕ
 groupGiven (Refused n) = 0
 groupGiven None = 0
@@ -43,20 +43,22 @@ beginning = record { state = fresh; history = empty }
 abbrev pub after : List Step → Execution
 after ss = executed beginning ss
 
--- "A committed slice is the one that a committed operation's write step stored": what each key has in the slice of its timestamp
+-- "A committed slice is the one that a committed operation's write step stored; it belongs to that operation's group.": what each key has in
+-- the slice of its timestamp, which stays as it was stored (`slice-stays` in proofs/Corollaries.antt, `written` in proofs/Invariant.antt)
 abbrev pub committedSlice : Execution → Committed → ℕ → Option ℕ
 committedSlice u c = cell (u .state .shared .present) (u .state .shared .values) (c .ts)
 
 -- demand 3, after a list of steps
 pub record Isolated (ss : List Step) : Type 0 where
   -- "a scan at any timestamp, given room, lists exactly the keys whose newest committed operation at or before it (newest by timestamp) is a put":
-  -- it answers 0, counts these rows and stores them, and leaves what stands behind them
+  -- "with room for these rows the scan isn't refused", it counts and stores them, and leaves what stands behind them
   pub lists : (t : ℕ) (buffer : List ℕ) → 3 * length (listing (after ss .history) t) ≤ length buffer
       → scan (after ss .state) t buffer ≡ listed (listing (after ss .history) t) buffer
   -- "No key ever stands in the committed slices of two file groups."
   pub apart : (c d : Committed) → List·Memᴰ c (after ss .history .done) → List·Memᴰ d (after ss .history .done) → (k u v : ℕ)
       → committedSlice (after ss) c k ≡ some u → committedSlice (after ss) d k ≡ some v → c .group ≡ d .group
-  -- "If the timestamp has been issued and no operation in progress holds it or an earlier one, that listing stays the same whatever steps follow."
+  -- "If the timestamp has been issued and no operation in progress holds it or an earlier one, that listing stays the same whatever steps follow.":
+  -- "Issued are 1 to the last timestamp; in progress are the open operations."
   pub stays : (t : ℕ) → 1 ≤ t → t ≤ after ss .history .last
       → ((w : ℕ) (p : Pending) → after ss .history .pending w ≡ some p → t < p .ts)
       → (more : List Step) (buffer : List ℕ) → 3 * length (listing (after ss .history) t) ≤ length buffer

@@ -48,7 +48,7 @@ copied absent rows b n (suc k) = set (copied absent rows b n k) (rowAt n k) (row
 unfoldable pub sliced : {A : Type 0} → A → List A → ℕ → ℕ → ℕ → A → List A
 sliced absent rows b n k v = set (copied absent rows b n keys) (rowAt n k) v
 
--- the slice of a writer's operation stored
+-- the slice of a writer's operation stored; "A base above 0 at which no slice is stored counts as no rows", since none of its rows is present
 abbrev pub withSlice : Shared → Writer → Shared
 withSlice s x =
     shared (s .last) (s .lock) (s .index) (s .timeline)
@@ -77,7 +77,8 @@ moved x p g b = record { phase = p; put = x .put; key = x .key; group = g; ts = 
 abbrev pub released : ℕ → ℕ → ℕ
 released l w = cond (eqb l (w + 1)) 0 l
 
--- "Whoever ends or commits frees the lock if holding it, goes to phase 0, and keeps no operation, timestamp or base (all 0)."
+-- "Whoever ends or commits frees the lock if holding it, goes to phase 0, and keeps no operation, timestamp or base (all 0).
+-- Its instant stays as it is for good."
 abbrev pub ended : ℕ → ℕ → Shared → Outcome
 ended n w s = outcome n ready (withLock s (released (s .lock) w))
 
@@ -114,6 +115,7 @@ abbrev pub namesOther : ℕ → ℕ → Bool
 namesOther e n = not (eqb e 0) && not (eqb e (n + 1))
 
 -- 5. "Index (4): takes the table lock. If the key is indexed to another group, the writer ends with 4. Else a put enters key and group. Phase 5, lock held."
+-- "An index entry, once made, stays, after a remove and also after an operation that ended later.": no other rule changes the index.
 unfoldable pub enterIndex : Writer → ℕ → Shared → Outcome
 enterIndex x w s =
     cond (not (eqb (x .phase) 4)) (outcome wrongPhase x s)
@@ -161,7 +163,7 @@ answered n st = record { answer = n; state = st }
 abbrev pub updated : State → ℕ → Outcome → Answered
 updated st w o = answered (o .answer) (record { shared = o .shared; writers = set (st .writers) w (o .writer) })
 
--- one step: "Tested in the order 17, 10, 12, 13, 14, 15, 16; the first that applies is given"
+-- one step: "Tested in the order 17, 10, 12, 13, 14, 15, 16; the first that applies is given": 17 and 10 here, the others in the rules
 unfoldable pub step : State → Step → Answered
 step st s =
     cond (not (inRange st)) (answered outOfRange st)

@@ -9,7 +9,7 @@ use Rattle.model.specs.Limits.{writers, keys, groups, timestamps}
 use Rattle.model.specs.declared.Writer.{Writer}
 use Rattle.model.specs.declared.Table.{Table}
 
--- what all writers share
+-- what all writers share; a file slice is kept by its timestamp, and its file group is that of the instant
 pub record Shared : Type 0 where
   pub last : ℕ  -- the last timestamp issued
   pub lock : ℕ  -- 0: free; w + 1: held by writer w
