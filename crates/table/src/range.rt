@@ -87,6 +87,7 @@ fn largest(numbers: &[u8], from: usize) -> u8
     most
 }
 
+// Is every stored number of a table in its range? A table's rows have none.
 pub fn in_range(t: Table) -> bool
     ensures { λ r. ⌜ ((present : List Bool) (values : List ℕ) → r ≡ inRange (stateOf t present values)) ⌝ }
 {

@@ -147,6 +147,7 @@ fn begin(op: Operation, ts: u8) -> Writer
     }
 }
 
+// Start: the next timestamp is issued, its instant requested.
 fn start(x: Writer, last: u8, lock: u8, op: Operation, timeline: &mut [u8; TIMESTAMPS]) -> Acted
     ensures { λ r. ⌜ ((i : List ℕ) (p : List Bool) (v : List ℕ) → outcomeOf r i (now (timeline .exit)) p v ≡ rules.start x (shared last lock i (now (timeline .entry)) p v) op) ⌝ }
 {
@@ -170,6 +171,7 @@ fn start(x: Writer, last: u8, lock: u8, op: Operation, timeline: &mut [u8; TIMES
     outcome(TAKEN, begin(op, ts), ts, lock)
 }
 
+// Look up: the file group that the index has for the key, or the one that a put proposes.
 fn look_up(x: Writer, w: u8, last: u8, lock: u8, index: &[u8; KEYS]) -> Acted
     requires { ⌜ (w < writers) × Bounds last x ⌝ }
     ensures { λ r. ⌜ ((t : List ℕ) (p : List Bool) (v : List ℕ) → outcomeOf r (now (index .entry)) t p v ≡ rules.lookUp x w (shared last lock (now (index .entry)) t p v)) ⌝ }
@@ -188,6 +190,7 @@ fn look_up(x: Writer, w: u8, last: u8, lock: u8, index: &[u8; KEYS]) -> Acted
     end(NOT_INDEXED, w, last, lock)
 }
 
+// Read: the base is the newest slice of the file group, unless that is later than the writer.
 fn read_base(x: Writer, w: u8, last: u8, lock: u8, timeline: &mut [u8; TIMESTAMPS]) -> Acted
     requires { ⌜ (w < writers) × Bounds last x ⌝ }
     ensures { λ r. ⌜ ((i : List ℕ) (p : List Bool) (v : List ℕ) → outcomeOf r i (now (timeline .exit)) p v ≡ rules.readBase x w (shared last lock i (now (timeline .entry)) p v)) ⌝ }
@@ -204,6 +207,7 @@ fn read_base(x: Writer, w: u8, last: u8, lock: u8, timeline: &mut [u8; TIMESTAMP
     outcome(TAKEN, moved(x, 3, x.group, base), last, lock)
 }
 
+// Write: the slice is stored; no reader sees it yet.
 fn write_slice(
     x: Writer,
     last: u8,
@@ -244,6 +248,7 @@ fn entry_after(put: bool, group: u8, entry: u8) -> u8
     if put { group + 1 } else { entry }
 }
 
+// Index: the lock is taken and a put's key entered, unless the lock or the key is another's.
 fn enter_index(x: Writer, w: u8, last: u8, lock: u8, index: &mut [u8; KEYS]) -> Acted
     requires { ⌜ (w < writers) × Bounds last x ⌝ }
     ensures { λ r. ⌜ ((t : List ℕ) (p : List Bool) (v : List ℕ) → outcomeOf r (now (index .exit)) t p v ≡ rules.enterIndex x w (shared last lock (now (index .entry)) t p v)) ⌝ }
@@ -263,6 +268,7 @@ fn enter_index(x: Writer, w: u8, last: u8, lock: u8, index: &mut [u8; KEYS]) -> 
     outcome(TAKEN, moved(x, 5, x.group, x.base), last, w + 1)
 }
 
+// Check: nothing was committed in the file group since the base.
 fn check_conflict(x: Writer, w: u8, last: u8, lock: u8, timeline: &[u8; TIMESTAMPS]) -> Acted
     requires { ⌜ (w < writers) × Bounds last x ⌝ }
     ensures { λ r. ⌜ ((i : List ℕ) (p : List Bool) (v : List ℕ) → outcomeOf r i (now (timeline .entry)) p v ≡ rules.checkConflict x w (shared last lock i (now (timeline .entry)) p v)) ⌝ }
@@ -276,6 +282,7 @@ fn check_conflict(x: Writer, w: u8, last: u8, lock: u8, timeline: &[u8; TIMESTAM
     outcome(TAKEN, moved(x, 6, x.group, x.base), last, lock)
 }
 
+// Commit: the instant is completed, and readers see its slice.
 fn commit(x: Writer, w: u8, last: u8, lock: u8, timeline: &mut [u8; TIMESTAMPS]) -> Acted
     requires { ⌜ (w < writers) × Bounds last x ⌝ }
     ensures { λ r. ⌜ ((i : List ℕ) (p : List Bool) (v : List ℕ) → outcomeOf r i (now (timeline .exit)) p v ≡ rules.commit x w (shared last lock i (now (timeline .entry)) p v)) ⌝ }
@@ -288,6 +295,7 @@ fn commit(x: Writer, w: u8, last: u8, lock: u8, timeline: &mut [u8; TIMESTAMPS])
     end(COMMITTED, w, last, lock)
 }
 
+// Abort (document 01's give up): the operation ends at any phase.
 fn abort(x: Writer, w: u8, last: u8, lock: u8) -> Acted
     requires { ⌜ w < writers ⌝ }
     ensures { λ r. ⌜ ((i t : List ℕ) (p : List Bool) (v : List ℕ) → outcomeOf r i t p v ≡ rules.abort x w (shared last lock i t p v)) ⌝ }

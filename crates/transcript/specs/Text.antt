@@ -54,6 +54,15 @@ rowLine r = field (r .key) space ++ field (r .value) space ++ field (r .group) n
 unfoldable pub rowLines : List Row → List ℕ
 rowLines rows = flatten (map rowLine rows)
 
+-- room for the text of a run: 4 bytes an answer, 33 for the stop, 63 a row
+abbrev pub runRoom : ℕ → ℕ → ℕ
+runRoom answers rows = 4 * answers + 33 + 63 * rows
+
+-- "too long", as a line
+abbrev pub tooLong : List ℕ
+tooLong = 116 ∷ 111 ∷ 111 ∷ 32 ∷ 108 ∷ 111 ∷ 110 ∷ 103 ∷ newline ∷ []
+
+-- ---- what inner functions promise each other
 -- row i of some numbers, three a row, as a scan stores them
 abbrev pub rowOf : List ℕ → ℕ → Row
 rowOf numbers i = row (getD numbers (3 * i) 0) (getD numbers (3 * i + 1) 0) (getD numbers (3 * i + 2) 0)
@@ -65,11 +74,3 @@ numberLines numbers count = listBelow count (λ i. rowLine (rowOf numbers i))
 -- the text of a run: its answers, its stop, and the first rows of the numbers that a scan stored
 unfoldable pub runText : List ℕ → ℕ → ℕ → List ℕ → ℕ → List ℕ
 runText answers stop offset numbers rows = answerLines answers ++ stopLine stop offset ++ numberLines numbers rows
-
--- room for the text of a run: 4 bytes an answer, 33 for the stop, 63 a row
-abbrev pub runRoom : ℕ → ℕ → ℕ
-runRoom answers rows = 4 * answers + 33 + 63 * rows
-
--- "too long", as a line
-abbrev pub tooLong : List ℕ
-tooLong = 116 ∷ 111 ∷ 111 ∷ 32 ∷ 108 ∷ 111 ∷ 110 ∷ 103 ∷ newline ∷ []

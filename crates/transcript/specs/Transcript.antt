@@ -5,6 +5,7 @@ use mathlib.Core.List.{List, _++_}
 use lib.ListN.{length, take, replicate}
 use lib.Dec.{ltb}
 use Rattle.leb128.specs.Coding.{Stored}
+use Rattle.model.specs.Limits.{keys}
 use Rattle.model.specs.State.{State, fresh}
 use Rattle.model.specs.Machine.{answersTo}
 use Rattle.model.specs.Snapshot.{rowsAt}
@@ -13,9 +14,9 @@ use Rattle.model.specs.Isolation.{after}
 use Rattle.steplog.specs.Records.{LogRead}
 use Rattle.steplog.specs.Writing.{pasted}
 use Rattle.run.specs.Runs.{Run, ofLog, runOf}
-use Rattle.transcript.specs.Text.{answerLines, stopLine, rowLines, tooLong}
+use Rattle.transcript.specs.Text.{answerLines, stopLine, rowLines, runRoom, tooLong}
 
--- "program input: 32,768 bytes"
+-- "program input", 32,768 bytes
 abbrev pub maxLog : ℕ
 maxLog = 32768
 
@@ -23,9 +24,9 @@ maxLog = 32768
 abbrev pub maxAnswers : ℕ
 maxAnswers = 16384
 
--- room for any text
+-- room for any text: no key has two rows
 abbrev pub maxText : ℕ
-maxText = 81920
+maxText = runRoom maxAnswers keys
 
 -- the text of a run
 abbrev pub reported : Run State → List ℕ

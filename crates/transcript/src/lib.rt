@@ -18,7 +18,7 @@ const MAX_ANSWERS: usize = MAX_LOG / 2;
 const MAX_NUMBERS: usize = 3 * KEYS;
 
 // Room for any text: 4 bytes an answer, 33 for the stop, 63 a row.
-pub const MAX_TEXT: usize = 81920;
+pub const MAX_TEXT: usize = 4 * MAX_ANSWERS + 33 + 63 * KEYS;
 
 // Prints what a log's run on a fresh table gives at the start of a buffer, and gives the text's size; nothing where the buffer is shorter than MAX_TEXT.
 pub fn transcribe(log: &[u8], text: &mut [u8]) -> usize

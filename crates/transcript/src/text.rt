@@ -4,7 +4,7 @@ ghost use lib.ListN.{length, take};
 ghost use Rattle.model.specs.Snapshot.{row};
 ghost use Rattle.steplog.specs.Writing.{Pastes};
 ghost use Rattle.transcript.specs.Text.{decimal, field, answerLines, stopLine, rowLine, numberLines, runText, runRoom};
-use model::Value;
+use model::Word;
 
 // The digit 0 in ASCII.
 const ZERO: u64 = 48;
@@ -47,7 +47,7 @@ fn put_field(text: &mut [u8], at: usize, number: u64, end: u8) -> usize
 }
 
 // The first `count` answers, each on its own line.
-pub fn put_answers(text: &mut [u8], at: usize, answers: &[u8], count: usize) -> usize
+fn put_answers(text: &mut [u8], at: usize, answers: &[u8], count: usize) -> usize
     requires { ⌜ (count ≤ length (now answers)) × (at + length (answerLines (take count (now answers))) ≤ length (now text)) ⌝ }
     ensures { λ r. ⌜ Pastes text at (answerLines (take count (now (answers .entry)))) r ⌝ }
 {
@@ -61,7 +61,7 @@ pub fn put_answers(text: &mut [u8], at: usize, answers: &[u8], count: usize) -> 
 }
 
 // The line `stop N at OFFSET`.
-pub fn put_stop(text: &mut [u8], at: usize, stop: u8, offset: usize) -> usize
+fn put_stop(text: &mut [u8], at: usize, stop: u8, offset: usize) -> usize
     requires { ⌜ at + length (stopLine stop offset) ≤ length (now text) ⌝ }
     ensures { λ r. ⌜ Pastes text at (stopLine stop offset) r ⌝ }
 {
@@ -72,7 +72,7 @@ pub fn put_stop(text: &mut [u8], at: usize, stop: u8, offset: usize) -> usize
 }
 
 // The line `key value group` of a row.
-fn put_row(text: &mut [u8], at: usize, key: Value, value: Value, group: Value) -> usize
+fn put_row(text: &mut [u8], at: usize, key: Word, value: Word, group: Word) -> usize
     requires { ⌜ at + length (rowLine (row key value group)) ≤ length (now text) ⌝ }
     ensures { λ r. ⌜ Pastes text at (rowLine (row key value group)) r ⌝ }
 {
@@ -82,7 +82,7 @@ fn put_row(text: &mut [u8], at: usize, key: Value, value: Value, group: Value) -
 }
 
 // The first `count` rows of some numbers, three a row, each on its own line.
-pub fn put_rows(text: &mut [u8], at: usize, numbers: &[Value], count: usize) -> usize
+fn put_rows(text: &mut [u8], at: usize, numbers: &[Word], count: usize) -> usize
     requires { ⌜ (3 * count ≤ length (now numbers)) × (at + length (numberLines (now numbers) count) ≤ length (now text)) ⌝ }
     ensures { λ r. ⌜ Pastes text at (numberLines (now (numbers .entry)) count) r ⌝ }
 {
@@ -109,7 +109,7 @@ pub fn put_run(
     count: usize,
     stop: u8,
     offset: usize,
-    numbers: &[Value],
+    numbers: &[Word],
     rows: usize,
 ) -> usize
     requires { ⌜ (count ≤ length (now answers)) × (3 * rows ≤ length (now numbers)) × (runRoom count rows ≤ length (now text)) ⌝ }
