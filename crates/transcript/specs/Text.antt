@@ -45,12 +45,15 @@ stopWord = 115 ∷ 116 ∷ 111 ∷ 112 ∷ 32 ∷ []
 abbrev pub atWord : List ℕ
 atWord = 32 ∷ 97 ∷ 116 ∷ 32 ∷ []
 
+-- "`stop N at OFFSET`"
 unfoldable pub stopLine : ℕ → ℕ → List ℕ
 stopLine stop offset = stopWord ++ decimal stop ++ atWord ++ field offset newline
 
+-- "`key value group` a line"
 unfoldable pub rowLine : Row → List ℕ
 rowLine r = field (r .key) space ++ field (r .value) space ++ field (r .group) newline
 
+-- each row on its own line
 unfoldable pub rowLines : List Row → List ℕ
 rowLines rows = flatten (map rowLine rows)
 
