@@ -15,11 +15,12 @@ use Rattle.model.specs.Limits.{keys, groups}
 use Rattle.model.specs.Counting.{listBelow}
 use Rattle.model.specs.State.{rowAt, cell}
 use Rattle.model.specs.Snapshot.{row, rowIf}
+use Rattle.model.proofs.ListBelow.{length-below}
 use Rattle.model.proofs.Slices.{cell-zero, cell-row}
 use Rattle.snapshot.specs.declared.rows.Shown.{Shown}
 use Rattle.snapshot.specs.Newest.{Slices}
 use Rattle.snapshot.specs.Rows.{shownBy, rowsOfKey, allRows, HasRow, countWith, lowestWith, SliceCounted, Counted, sum, AllFit}
-use Rattle.snapshot.proofs.Lists.{no-length, length-more, length-most, sum-length}
+use Rattle.snapshot.proofs.Lists.{no-length, length-more, sum-length}
 
 -- what file group g shows of a key, where n is the timestamp of its slice
 module _ {present : List Bool} {n k : ℕ} {b : Bool} (h : HasRow present n k b) (values : List ℕ) (g : ℕ) where
@@ -53,7 +54,7 @@ module _ (slices : List ℕ) (present : List Bool) where
         omega (
           arith,
           h .count [] k l,
-          length-most g (shownBy slices present [] k) (λ i. row-most k i (cell present [] (getD slices i 0) k)),
+          length-below 1 g (shownBy slices present [] k) (λ i. row-most k i (cell present [] (getD slices i 0) k)),
         )
 
     -- group g counted: `shows k` tells whether it shows key k

@@ -42,11 +42,6 @@ module _ {A : Type 0} where
         let l = ap length list-rest ∙ length-append (listBelow n f) rest in
         sym (list-rest ∙ rw (no-length rest (omega arith)) (append-nil (listBelow n f)))
 
-  pub length-most : (n : ℕ) (f : ℕ → List A) → ((i : ℕ) → length (f i) ≤ 1) → length (listBelow n f) ≤ n
-  unfolding listBelow
-  length-most zero f h = omega arith
-  length-most (suc n) f h = omega (arith, length-append (listBelow n f) (f n), length-most n f h, h n)
-
   pub sum-length : (n : ℕ) (f : ℕ → List A) (c : ℕ → ℕ) → ((i : ℕ) → i < n → c i ≡ length (f i)) → sum n c ≡ length (listBelow n f)
   unfolding listBelow sum
   sum-length zero f c h = refl
