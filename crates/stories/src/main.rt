@@ -26,5 +26,6 @@ fn main() {
     calls::room(&mut present, &mut values);
     calls::stops(&mut present, &mut values);
     tables::out_of_range(&mut present, &mut values);
+    tables::unreached(&mut present, &mut values);
     writing::log_writer();
 }

@@ -22,7 +22,7 @@ pub fn run_printed(
     ran
 }
 
-fn scans(t: Table, present: &[bool; ROWS], values: &[Value; ROWS], first: u64, last: u64) {
+pub fn scans(t: Table, present: &[bool; ROWS], values: &[Value; ROWS], first: u64, last: u64) {
     for at in first..=last {
         print::scan(t, present, values, at);
     }
