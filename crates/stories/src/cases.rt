@@ -33,7 +33,7 @@ pub fn lost_write(present: &mut [bool; ROWS], values: &mut [Value; ROWS]) {
     let script = b"\
         both have written:\x01\x01\x01\x0a\x01\x02\x01\x02\x14\x01\x01\x03\x02\x03\x01\x04\x02\x04\x01\x05\x02\x05;\
         writer 1 commits:\x01\x06\x01\x07\x01\x08;\
-        writer 2 is refused:\x02\x06\x02\x07\x02\x08;";
+        writer 2 ends:\x02\x06\x02\x07\x02\x08;";
     story(present, values, title, script, 1, 2);
 }
 
@@ -43,7 +43,7 @@ pub fn lost_write_swapped(present: &mut [bool; ROWS], values: &mut [Value; ROWS]
     let script = b"\
         both have written:\x01\x01\x01\x0a\x01\x02\x01\x02\x14\x01\x01\x03\x02\x03\x01\x04\x02\x04\x01\x05\x02\x05;\
         writer 2 commits:\x02\x06\x02\x07\x02\x08;\
-        writer 1 is refused:\x01\x06\x01\x07\x01\x08;";
+        writer 1 ends:\x01\x06\x01\x07\x01\x08;";
     story(present, values, title, script, 1, 2);
 }
 

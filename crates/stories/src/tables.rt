@@ -70,8 +70,8 @@ fn by_hand(present: &mut [bool; ROWS], values: &mut [Value; ROWS]) -> Table {
     t
 }
 
-// Two groups show one key: both rows are listed, the lower group first, and a point read finds that group's row.
-// The instant without a slice shows no rows, and as a base it counts as no rows.
+// "In a table not reached from a fresh one two groups may show one key: both rows are listed, lower group first."
+// A slice that is not stored shows no rows, and "A base above 0 at which no slice is stored counts as no rows at the write step".
 pub fn unreached(present: &mut [bool; ROWS], values: &mut [Value; ROWS]) {
     let script = b"writer 0 commits:\x00\x05\x00\x06\x00\x07\x00\x08;";
     print::title(b"A table not reached from a fresh one");
