@@ -455,10 +455,6 @@ class OutOfRange(TableTest):
             ("timeline", {3: REQUESTED}),
             ("timeline", {0: REQUESTED}),
             ("timeline", {1: Instant(State.COMPLETED, 8)}),
-            ("slices", {(8, 1): {}}),
-            ("slices", {(0, 3): {}}),
-            ("slices", {(0, 1): {32: 0}}),
-            ("slices", {(0, 1): {0: MAX_NUMBER + 1}}),
         ):
             with self.subTest(name=name, value=value):
                 kept = getattr(self.table, name)

@@ -53,7 +53,6 @@ fn bytes(buffer: &[u8], count: usize) {
 // The answers of a run, behind a label.
 pub fn answers(label: &[u8], buffer: &[u8], count: usize) {
     text(label);
-    text(b":");
     bytes(buffer, count);
     text(b"\n");
 }
@@ -88,33 +87,55 @@ fn refusal(answer: u8) {
     byte(answer);
 }
 
-// The rows of a table at a timestamp; there are never more than two here.
-pub fn scan(t: Table, present: &[bool; ROWS], values: &[Value; ROWS], at: u64) {
-    let mut buffer = [0; 6];
-    let found = snapshot::scan(t, present, values, at, &mut buffer);
-    text(b"at");
-    number(at);
+// A word and a number, the head of a line.
+fn head(word: &[u8], n: u64) {
+    text(word);
+    number(n);
     text(b":");
+}
+
+// What a scan gave.
+fn listing(found: Scanned, buffer: &[Value]) {
     if found.answer != 0 {
         refusal(found.answer);
     } else if found.count == 0 {
         text(b" no rows");
     } else {
-        rows(&buffer, found.count);
+        rows(buffer, found.count);
     }
     text(b"\n");
 }
 
-// What a scan gave, and its buffer, of three rows at most.
-pub fn scanned(label: &[u8], found: Scanned, buffer: &[Value]) {
-    text(label);
-    text(b": answer");
+// The rows of a table at a timestamp; there are never more than two here.
+pub fn scan(t: Table, present: &[bool; ROWS], values: &[Value; ROWS], at: u64) {
+    let mut buffer = [0; 6];
+    let found = snapshot::scan(t, present, values, at, &mut buffer);
+    head(b"at", at);
+    listing(found, &buffer);
+}
+
+// What a scan gave, and its buffer.
+fn stored(found: Scanned, buffer: &[Value]) {
+    text(b" answer");
     byte(found.answer);
     text(b",");
     number(found.count as u64);
     text(b" rows:");
     rows(buffer, 3);
     text(b"\n");
+}
+
+// A scan at a timestamp into a buffer, of three rows at most.
+pub fn scan_into(
+    t: Table,
+    present: &[bool; ROWS],
+    values: &[Value; ROWS],
+    at: u64,
+    buffer: &mut [Value],
+) {
+    let found = snapshot::scan(t, present, values, at, buffer);
+    head(b"room for", buffer.len() as u64);
+    stored(found, buffer);
 }
 
 fn hex(n: u8) {
@@ -140,44 +161,45 @@ pub fn written(label: &[u8], written: Written, buffer: &[u8]) {
     text(b"\n");
 }
 
-fn group(n: u8) {
+// A word and a file group.
+fn in_group(word: &[u8], group: u8) {
+    text(word);
     text(b" in group");
-    byte(n);
+    byte(group);
 }
 
-pub fn found(key: Word, at: u64, found: Found) {
-    text(b"key");
-    word(key);
-    text(b" at");
-    number(at);
-    text(b":");
+fn found(found: Found) {
     match found {
         Found::Refused(answer) => refusal(answer),
         Found::Absent => text(b" absent"),
-        Found::Present { value, group: g } => {
+        Found::Present { value, group } => {
             word(value);
-            group(g);
+            in_group(b"", group);
         }
     }
     text(b"\n");
 }
 
-pub fn instant(at: u64, state: InstantState) {
-    text(b"instant");
-    number(at);
-    text(b":");
+// The row of a key at a timestamp.
+pub fn point_read(t: Table, present: &[bool; ROWS], values: &[Value; ROWS], at: u64, key: Word) {
+    text(b"key");
+    word(key);
+    head(b" at", at);
+    found(snapshot::read(t, present, values, at, key));
+}
+
+fn state(state: InstantState) {
     match state {
         InstantState::Refused(answer) => refusal(answer),
         InstantState::None => text(b" none"),
         InstantState::Requested => text(b" requested"),
-        InstantState::Inflight(g) => {
-            text(b" inflight");
-            group(g);
-        }
-        InstantState::Completed(g) => {
-            text(b" completed");
-            group(g);
-        }
+        InstantState::Inflight(group) => in_group(b" inflight", group),
+        InstantState::Completed(group) => in_group(b" completed", group),
     }
     text(b"\n");
+}
+
+pub fn instant(t: Table, at: u64) {
+    head(b"instant", at);
+    state(snapshot::instant(t, at));
 }

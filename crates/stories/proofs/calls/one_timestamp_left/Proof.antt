@@ -1,6 +1,7 @@
--- `one_timestamp_left` is safe and ends, after 63 turns.
+-- `one_timestamp_left` is safe and ends: each turn leaves fewer timestamps to issue.
 use Prim.Native.Nat.{_-_}
 use borrow.Author.Needs.{needs}
+use Rattle.model.specs.Limits.{timestamps}
 use Rattle.stories.proofs.calls.one_timestamp_left.Statement.{statement}
 use Rattle.stories.proofs.calls.one_timestamp_left.Tie as tie
 
@@ -8,7 +9,7 @@ abbrev Inv-loop : tie.InvT-loop
 Inv-loop present₀ values₀ t₀ counter₀ present values t counter = Unit {0}
 
 abbrev μ-loop : tie.MeasureT-loop
-μ-loop present₀ values₀ t₀ counter₀ present values t counter = 64 - counter
+μ-loop present₀ values₀ t₀ counter₀ present values t counter = timestamps - counter
 
 fresh-requires : tie.Need-fresh-requires Inv-loop μ-loop
 fresh-requires c κs = search needs

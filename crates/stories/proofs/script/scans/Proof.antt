@@ -1,8 +1,8 @@
 -- `scans` is safe and ends: each turn leaves fewer timestamps up to the last.
 use Prim.Native.Nat.{suc, _-_}
 use borrow.Author.Needs.{needs}
-use Rattle.stories.proofs.scans.Statement.{statement}
-use Rattle.stories.proofs.scans.Tie as tie
+use Rattle.stories.proofs.script.scans.Statement.{statement}
+use Rattle.stories.proofs.script.scans.Tie as tie
 
 abbrev Inv-loop : tie.InvT-loop
 Inv-loop t present values first last at₀ at = Unit {0}
