@@ -388,12 +388,12 @@ def families() -> list[tuple[str, list[bytes]]]:
         ("puts after removes", list(remove_logs())),
         ("the lock freed", list(lock_logs())),
         ("refusals", list(refusal_logs())),
-        ("walks of 50 to 400 steps", list(walk_logs(draw))),
-        ("walks that use up the timestamps", list(exhausting_logs(draw))),
-        ("one walk, ended at ever later steps", list(prefix_logs(draw))),
-        ("each stop", list(stop_logs(draw))),
+        ("random walks of 50 to 400 steps", list(walk_logs(draw))),
+        ("random walks that use up the timestamps", list(exhausting_logs(draw))),
+        ("one random walk, ended at ever later steps", list(prefix_logs(draw))),
+        ("each stop but 24", list(stop_logs(draw))),
         ("noise", list(noise_logs(draw))),
-        ("walks damaged by a byte, or cut", list(damaged_logs(draw))),
+        ("random walks damaged by a byte, or cut", list(damaged_logs(draw))),
         ("32,768 bytes, and 32,769", list(size_logs(draw))),
     ]
 
