@@ -21,7 +21,7 @@ use Rattle.model.proofs.CommittedAt.{committedAt, newest-on-later}
 use Rattle.model.proofs.Slices.{cell-zero}
 use Rattle.model.proofs.Lengths.{fresh-sized}
 use Rattle.model.proofs.Moves.{View, Move, stays, starts, continues, ends, commits}
-use Rattle.model.proofs.InvariantKept.{ready-facts}
+use Rattle.model.proofs.OwnFacts.{ready-facts}
 use Rattle.model.proofs.StepMoves.{viewOf, Consistent, step-moves, step-consistent}
 use Rattle.model.proofs.Listing.{in-slice, scan-listed}
 

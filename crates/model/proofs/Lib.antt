@@ -13,6 +13,10 @@ pub mod Executed
 pub mod RangeKept
 pub mod Moves
 pub mod Invariant
+pub mod Kept
+pub mod OwnFacts
+pub mod PhaseKept
+pub mod CommitKept
 pub mod InvariantKept
 pub mod Slices
 pub mod Lengths

@@ -1,0 +1,116 @@
+-- A commit keeps the invariant: `commit-keeps`. Its base is the newest of its group before it, since no commit of the group came after its check.
+use Prim.Native.Nat.{ℕ, _≤_}
+use mathlib.Core.Path.{_≡_, refl, sym, subst, subst⁻¹, ap, _∙_}
+use mathlib.Core.Option.{Option, none, some, map-eq-none-iff}
+use native.Mathlib.Omega.{arith}
+use Rattle.model.specs.Counting.{upd}
+use Rattle.model.specs.State.{ready}
+use Rattle.model.specs.History.{Pending, Committed, joined}
+use Rattle.model.specs.declared.Writer.{Writer}
+use Rattle.model.proofs.Functions.{none-some, some-inj, upd-same, upd-other, upd-ind}
+use Rattle.model.proofs.Newest.{newest-kept}
+use Rattle.model.proofs.CommittedAt.{committedAt, groupIn}
+use Rattle.model.proofs.Moves.{View, leaves, afterCommit}
+use Rattle.model.proofs.Invariant.{InProgress, Based, CommittedFacts, Invariant, committed-completed}
+use Rattle.model.proofs.Kept.{SharedKept, Moved, Kept, committed-facts, writer-facts, timestamps-apart}
+use Rattle.model.proofs.OwnFacts.{ready-facts, released-other, released-own}
+
+module _ (v : View) (w : ℕ) (i : Invariant v) where
+  module _ (p : Pending) (at : v .writer w .phase ≡ 6) (is : v .history .pending w ≡ some p) where
+    abbrev x : Writer
+    x = v .writer w
+
+    abbrev n : View
+    n = afterCommit v w p
+
+    inProgress : InProgress (some p) (v .last) (v .completed (x .ts)) (x .key) (leaves x) (x .ts)
+    inProgress = rw is at (i .writer w .inProgress (omega arith))
+
+    same : inProgress .pending ≡ p
+    same = some-inj (inProgress .is) refl
+
+    at-ts : p .ts ≡ x .ts
+    at-ts = ap (λ (q : Pending). q .ts) (sym same) ∙ inProgress .ts
+
+    based : Based (v .completed) (x .group) (x .base) (x .ts)
+    based = i .writer w .based (omega arith)
+
+    latest : (s : ℕ) → v .completed s ≡ some (x .group) → s ≤ x .base
+    latest = i .writer w .latest (omega arith)
+
+    commit-shared : SharedKept v n
+    commit-shared =
+        record {
+          last = omega arith;
+          completed = λ s g e. upd-other (v .completed) (x .ts) (some (x .group)) s (λ q. none-some (inProgress .uncompleted) (rw q at e)) ∙ e;
+          newest =
+              λ s g b e.
+              newest-kept (inProgress .uncompleted) (x .group)
+              (λ q le. absurd (omega (arith, latest s (e ∙ ap {B = Option ℕ} some (sym q)), based .before, inProgress .positive)));
+          entry = λ k g e. e;
+          cell = λ s g e. refl;
+        }
+
+    -- its base is the newest of its group before it
+    new-facts : CommittedFacts n (x .ts) (x .group) (p .operation)
+    new-facts =
+        record {
+          base = x .base;
+          newest =
+              newest-kept (inProgress .uncompleted) (x .group) (λ q le. absurd (omega (arith, inProgress .positive)))
+              (record { below = omega (arith, based .before); hit = based .hit; most = λ s le. latest s });
+          rows = λ k. rw (← same, inProgress .key, inProgress .left) (i .writer w .written (omega arith) k);
+          indexed = rw (← same, inProgress .key) (i .writer w .indexed (omega arith));
+        }
+
+    commit-moves : Moved v n w ready
+    unfolding joined
+    commit-moves =
+        record {
+          writer = refl;
+          shared = commit-shared;
+          others =
+              λ u ne.
+              record {
+                pending = upd-other (v .history .pending) w none u ne;
+                uncompleted = λ q. upd-other (v .completed) (x .ts) (some (x .group)) (v .writer u .ts) (λ e. ne (i .apart u w q (omega arith) e));
+                cell = λ q. refl;
+                locks = released-other (v .lock) w u ne .0;
+                holds = released-other (v .lock) w u ne .1;
+                latest = λ q. absurd (omega (arith, i .writer w .locks (omega arith), i .writer u .locks (omega arith)));
+              };
+          own = ready-facts n w (upd-same (v .history .pending) w none) (released-own (v .lock) w);
+          apart = λ u ne q r. absurd (omega arith);
+        }
+
+    pub commit-keeps : Kept v n
+    unfolding joined committedAt
+    commit-keeps =
+        let f = committedAt (v .history .done) in
+        let c : Committed = record { operation = p .operation; ts = p .ts; group = x .group } in
+        let free : f (x .ts) ≡ none = map-eq-none-iff _ (f (x .ts)) .0 (sym (i .linked (x .ts)) ∙ inProgress .uncompleted) in
+        record {
+          shared = commit-shared;
+          invariant =
+              record {
+                last = i .last;
+                distinct = (omega (arith, inProgress .positive, at-ts), rw at-ts free, i .distinct);
+                linked =
+                    rw (← at-ts)
+                    (upd-ind (v .completed) (p .ts) (some (x .group)) (λ s g. g ≡ groupIn (upd f (p .ts) (some c) s))
+                    (ap groupIn (sym (upd-same f (p .ts) (some c))))
+                    (λ s ne. i .linked s ∙ ap groupIn (sym (upd-other f (p .ts) (some c) s ne))));
+                above = λ s q. upd-other (v .completed) (x .ts) (some (x .group)) s (omega (arith, inProgress .issued)) ∙ i .above s q;
+                empty = i .empty;
+                committed =
+                    λ s d e.
+                    upd-ind f (p .ts) (some c) (λ s o. o ≡ some d → CommittedFacts n s (d .group) (d .operation))
+                    (λ q.
+                    subst (λ (d : Committed). CommittedFacts n (p .ts) (d .group) (d .operation)) (some-inj {o = some c} refl q)
+                    (subst⁻¹ (λ (s : ℕ). CommittedFacts n s (x .group) (p .operation)) at-ts new-facts))
+                    (λ s ne q. committed-facts v n commit-shared s (d .group) (d .operation) (committed-completed v i s d q) (i .committed s d q))
+                    s e;
+                writer = writer-facts v n w ready i commit-moves;
+                apart = timestamps-apart v n w ready i commit-moves;
+              };
+        }
