@@ -2,10 +2,10 @@
 # How the program replay reads its input: whole, byte by byte, none, the longest, longer ones, and with a read error.
 # Needs the built program. Prints nothing and exits with 0 where every case holds; else prints the failing case and exits with 1.
 set -u
-cd "$(dirname "$0")/.." || exit 1
+cd "$(dirname "$0")/.." || { echo 'tests/replay.sh: no such directory'; exit 1; }
 log=crates/replay/stdin
 text=crates/replay/stdout
-dir=$(mktemp -d) || exit 1
+dir=$(mktemp -d) || { echo 'tests/replay.sh: no temporary directory'; exit 1; }
 trap 'rm -rf "$dir"' EXIT
 
 # Runs the program on standard input.
@@ -13,9 +13,9 @@ run() {
     target/bin/replay >"$dir/out" 2>"$dir/err"
 }
 
-# Case $1: standard output and standard error are the files `expected` and `said`.
-hold() {
-    if ! cmp -s "$dir/out" "$dir/expected" || ! cmp -s "$dir/err" "$dir/said"; then
+# Case $1: standard output and standard error are the files `expected` and `expected_err`.
+expect() {
+    if ! cmp -s "$dir/out" "$dir/expected" || ! cmp -s "$dir/err" "$dir/expected_err"; then
         echo "tests/replay.sh: $1: the program did not print what it should"
         exit 1
     fi
@@ -40,19 +40,19 @@ repeat() {
     done
 }
 
-: >"$dir/said"
+: >"$dir/expected_err"
 
 # Document 01's log.
 cp "$text" "$dir/expected"
 run <"$log"
-hold 'the example log in one piece'
+expect 'the example log in one piece'
 byte_by_byte "$log" | run
-hold 'the example log byte by byte'
+expect 'the example log byte by byte'
 
 # "Empty log: `stop 0 at 0`, no row."
 echo 'stop 0 at 0' >"$dir/expected"
 run </dev/null
-hold 'an empty input'
+expect 'an empty input'
 
 # The longest log, 32,768 bytes of look ups by a ready writer: each record has two bytes and is answered 14.
 printf '\000\003' >"$dir/look_ups"
@@ -61,26 +61,26 @@ echo 14 >"$dir/answers"
 repeat "$dir/answers"
 { cat "$dir/answers"; echo 'stop 0 at 32768'; } >"$dir/expected"
 run <"$dir/look_ups"
-hold '32,768 bytes'
+expect '32,768 bytes'
 
 # Document 01's log, whose writer is then ready, and look ups, 32,768 bytes in all.
 { cat "$log"; dd if="$dir/look_ups" bs=2 count=16375 2>/dev/null; } >"$dir/longest"
 { head -n 7 "$text"; head -n 16375 "$dir/answers"; printf 'stop 0 at 32768\n1 300 2\n'; } >"$dir/expected"
 cat "$dir/longest" | run
-hold '32,768 bytes through a pipe'
+expect '32,768 bytes through a pipe'
 
 # "For longer input it prints only `too long`."
 echo 'too long' >"$dir/expected"
 { cat "$dir/longest"; printf '\000'; } >"$dir/longer"
 run <"$dir/longer"
-hold '32,769 bytes'
+expect '32,769 bytes'
 cat "$dir/longest" "$dir/longest" "$dir/longest" "$dir/longest" 2>/dev/null | run
-hold 'a longer input through a pipe'
+expect 'a longer input through a pipe'
 
 # A read error.
 : >"$dir/expected"
-echo 'read error' >"$dir/said"
+echo 'read error' >"$dir/expected_err"
 run <&-
-hold 'standard input closed'
+expect 'standard input closed'
 run <"$dir"
-hold 'a directory as standard input'
+expect 'a directory as standard input'

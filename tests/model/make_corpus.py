@@ -8,7 +8,7 @@ STDOUT gets for each log the line ``log I``, counted from 0, and the program's
 text for it. HISTOGRAM gets Markdown tables of the answers and stops that occur
 and of the logs. The files are the same in every run.
 
-Every log is also run step by step against document 01's own claims: the scan
+Every log but the one that is too long is also run step by step against document 01's own claims: the scan
 lists what the history says, no key stands in the committed slices of two
 groups, the listing at a stable timestamp stays whatever steps follow (demand
 3), and the steps coded again give the log's bytes (demand 2).

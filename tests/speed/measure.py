@@ -1,11 +1,12 @@
 #!/usr/bin/env python3
-"""Times crates/speed against reference.rs, the same program in ordinary Rust, on logs of 64 whole operations with a scan after each.
+"""Times crates/speed against reference.rs, a program in ordinary Rust, on logs of 64 whole operations with a scan after each.
 
-    rt check speed && python3 tests/speed/measure.py       prints a line a log: both times of a pass, and their ratio
+    rt check speed && python3 tests/speed/measure.py       prints, for each log and each type of its small numbers, both times of a pass and their ratio
     python3 tests/speed/measure.py --store                 stores crates/speed/stdin, and the reference's output for it in crates/speed/stdout
 
 Both must print the same answers and rows before anything is timed. A time is that of many passes less that of one, over the passes, so that
-starting, reading and printing do not count; the two programs take turns, and the median of the rounds is given. Needs Python 3.8 and rustc.
+starting, reading and printing do not count. The two programs take turns; a time is the median of the rounds, the ratio that of their ratios.
+Needs Python 3.8 and rustc.
 """
 import statistics
 import subprocess
@@ -55,31 +56,39 @@ def seconds(program, passes, steps):
     return time.perf_counter() - begin
 
 
-def a_pass(program, steps):
+def pass_time(program, steps):
     """The microseconds of one pass."""
     return 1e6 * (seconds(program, PASSES, steps) - seconds(program, 1, steps)) / (PASSES - 1)
 
 
-def measure(ours, reference):
+def measure(ours, reference, kind):
     for writers in (1, 8):
         steps = log(writers)
         if output(ours, 2, steps) != output(reference, 2, steps):
-            sys.exit(f"{writers} writers: the programs print other answers or rows")
-        times = [(a_pass(ours, steps), a_pass(reference, steps)) for _ in range(ROUNDS)]
-        mine, theirs = (statistics.median(column) for column in zip(*times))
+            sys.exit(f"writers {writers}: the programs print different answers or rows")
+        times = [(pass_time(ours, steps), pass_time(reference, steps)) for _ in range(ROUNDS)]
+        our_time, reference_time = (statistics.median(column) for column in zip(*times))
         ratio = statistics.median(a / b for a, b in times)
-        print(f"{writers} writers: {mine:.1f} us a pass, in Rust {theirs:.1f} us, ratio {ratio:.2f}")
+        print(f"writers {writers}: {our_time:.1f} us a pass, in Rust with {kind} {reference_time:.1f} us, ratio {ratio:.2f}")
+
+
+def compiled(folder, name, *flags):
+    program = str(Path(folder) / name)
+    source = str(Path(__file__).with_name("reference.rs"))
+    subprocess.run(["rustc", "--edition", "2021", "-O", "--check-cfg", "cfg(small)", *flags, "-o", program, source], check=True)
+    return program
 
 
 def main():
     with tempfile.TemporaryDirectory() as folder:
-        reference = str(Path(folder) / "reference")
-        subprocess.run(["rustc", "--edition", "2021", "-O", "-o", reference, str(Path(__file__).with_name("reference.rs"))], check=True)
+        plain = compiled(folder, "plain")
         if sys.argv[1:] == ["--store"]:
             (CRATE / "stdin").write_bytes(leb128(2) + log(8))
-            (CRATE / "stdout").write_bytes(output(reference, 2, log(8)))
+            (CRATE / "stdout").write_bytes(output(plain, 2, log(8)))
         else:
-            measure(str(ROOT / "target" / "bin" / "speed"), reference)
+            ours = str(ROOT / "target" / "bin" / "speed")
+            measure(ours, plain, "usize")
+            measure(ours, compiled(folder, "small", "--cfg", "small"), "u8")
 
 
 main()

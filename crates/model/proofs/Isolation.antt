@@ -114,7 +114,7 @@ isolated ss =
     let h = reached ss in
     record {
       lists = scan-listed (after ss) h;
-      apart = λ c d p q k x y e f. omega (arith, in-slice (after ss) h c p k x e, in-slice (after ss) h d q k y f);
+      oneGroup = λ c d p q k x y e f. omega (arith, in-slice (after ss) h c p k x e, in-slice (after ss) h d q k y f);
       stays =
           λ t positive issued later more buffer room.
           let same = listing-stays t (after ss) more h (record { issued = issued; later = later; same = λ k. refl }) in

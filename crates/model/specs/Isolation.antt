@@ -29,6 +29,7 @@ pub record Execution : Type 0 where
 abbrev pub answeredBy : Execution → Step → Answered → Execution
 answeredBy u s r = record { state = r .state; history = recorded (u .history) s (r .answer) (λ n. groupGiven (instantAt (r .state) n)) }
 
+-- one step: the table's answer and next state, and both recorded
 unfoldable pub next : Execution → Step → Execution
 next u s = answeredBy u s (step (u .state) s)
 
@@ -40,6 +41,7 @@ executed u ss = foldl next u ss
 abbrev pub beginning : Execution
 beginning = record { state = fresh; history = empty }
 
+-- the table and its history after a list of steps
 abbrev pub after : List Step → Execution
 after ss = executed beginning ss
 
@@ -55,7 +57,7 @@ pub record Isolated (ss : List Step) : Type 0 where
   pub lists : (t : ℕ) (buffer : List ℕ) → 3 * length (listing (after ss .history) t) ≤ length buffer
       → scan (after ss .state) t buffer ≡ listed (listing (after ss .history) t) buffer
   -- "No key ever stands in the committed slices of two file groups."
-  pub apart : (c d : Committed) → List·Memᴰ c (after ss .history .done) → List·Memᴰ d (after ss .history .done) → (k u v : ℕ)
+  pub oneGroup : (c d : Committed) → List·Memᴰ c (after ss .history .done) → List·Memᴰ d (after ss .history .done) → (k u v : ℕ)
       → committedSlice (after ss) c k ≡ some u → committedSlice (after ss) d k ≡ some v → c .group ≡ d .group
   -- "If the timestamp has been issued and no operation in progress holds it or an earlier one, that listing stays the same whatever steps follow.":
   -- "Issued are 1 to the last timestamp; in progress are the open operations."

@@ -19,6 +19,7 @@ writerTests last x =
 abbrev pub writerInRange : ℕ → Writer → Bool
 writerInRange last x = every (writerTests last x)
 
+-- the numbers of all writers
 unfoldable pub writersInRange : ℕ → List Writer → Bool
 writersInRange last xs = eachBelow writers (λ w. writerInRange last (getD xs w ready))
 
@@ -34,6 +35,7 @@ instantsInRange timeline = eachBelow timestamps (λ i. ltb (getD timeline i 0) (
 unfoldable pub noneAbove : ℕ → List ℕ → Bool
 noneAbove last timeline = eachBelow timestamps (λ i. ltb i last || eqb (getD timeline i 0) 0)
 
+-- every stored number of a table is in its range: answer 17 is given exactly where this is false
 unfoldable pub inRange : State → Bool
 inRange st =
     every

@@ -25,7 +25,7 @@ pub record Outcome : Type 0 where
 abbrev pub outcome : ℕ → Writer → Shared → Outcome
 outcome n x s = record { answer = n; writer = x; shared = s }
 
--- the parts of the shared state that an action changes
+-- the shared part with another lock, another index, or another instant at timestamp n
 abbrev pub withLock : Shared → ℕ → Shared
 withLock s l = shared (s .last) l (s .index) (s .timeline) (s .present) (s .values)
 
@@ -39,7 +39,7 @@ withInstant s n i = shared (s .last) (s .lock) (s .index) (set (s .timeline) (n 
 abbrev pub issued : Shared → Shared
 issued s = shared (s .last + 1) (s .lock) (s .index) (set (s .timeline) (s .last) requested) (s .present) (s .values)
 
--- the rows after the first k of the slice of timestamp n are taken over from the slice of b; none for b = 0
+-- the rows, once the first k of the slice of timestamp n have been taken over from the slice of b (none for b = 0)
 unfoldable pub copied : {A : Type 0} → A → List A → ℕ → ℕ → ℕ → List A
 copied absent rows b n zero = rows
 copied absent rows b n (suc k) = set (copied absent rows b n k) (rowAt n k) (rowIn absent rows b k)

@@ -60,6 +60,7 @@ pub enum Action {
     Abort,
 }
 
+// What one writer does next.
 pub struct Step {
     pub writer: Word,
     pub action: Action,

@@ -41,14 +41,14 @@ fn has_row(present: &[bool; ROWS], ts: u8, key: usize) -> bool
     present[row_at(ts, key)]
 }
 
-// 1 for true.
+// 1 for true, 0 for false.
 fn number(b: bool) -> u8
     ensures { λ r. ⌜ (r ≡ cond b 1 0) × (r ≤ 1) ⌝ }
 {
     if b { 1 } else { 0 }
 }
 
-// `g`, or GROUPS, which is above every group.
+// `g` for true, else GROUPS, which is above every group.
 fn group_if(b: bool, g: u8) -> u8
     ensures { λ r. ⌜ r ≡ cond b g groups ⌝ }
 {

@@ -1,5 +1,6 @@
-// Runs the operations of a log one by one, with a scan after each, as many times over as the input says: to be timed against the same program in
-// ordinary Rust (tests/speed). Standard input is the number of passes over the log, in LEB128, and the log. The last pass is printed.
+// Runs the operations of a log one by one, with a scan after each, as many times over as the input says: to be timed against a program in ordinary
+// Rust with the same input and output (tests/speed). Standard input, of which the first 4,096 bytes count, is the number of passes over the log,
+// in LEB128, and the log. The last pass is printed.
 mod print;
 
 ghost use Prim.Native.Nat.{_<_, _≤_};

@@ -39,6 +39,7 @@ fn rows(buffer: &[Word], count: usize) {
     }
 }
 
+// The answers of an operation, and the rows of the scan after it.
 pub fn operation(answered: &[u8], count: usize, listed: &[Word], row_count: usize) {
     answers(answered, count);
     rows(listed, row_count);

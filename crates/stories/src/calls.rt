@@ -94,6 +94,7 @@ pub fn stops(present: &mut [bool; ROWS], values: &mut [Value; ROWS]) {
         number longer than needed:\x02\x01\x01\x0a\x01\x02\x83\x00;\
         number too large:\x03\x01\x01\x0a\x01\xff\xff\xff\xff\x10;\
         no such kind:\x04\x01\x01\x0a\x01\x04\x0a;";
+    // Document 01's log again.
     let log = b"\x00\x01\x01\xac\x02\x02\x00\x03\x00\x04\x00\x05\x00\x06\x00\x07\x00\x08";
     story(present, values, b"Stops of a run", script, 1, 1);
     no_place(present, values, log);

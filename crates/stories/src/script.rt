@@ -22,13 +22,14 @@ pub fn run_printed(
     ran
 }
 
+// The rows at the timestamps `first` to `last`.
 pub fn scans(t: Table, present: &[bool; ROWS], values: &[Value; ROWS], first: u64, last: u64) {
     for at in first..=last {
         print::scan(t, present, values, at);
     }
 }
 
-// Runs a log on a table, and scans at some timestamps.
+// Runs a log on a table, and scans at the timestamps `first` to `last`.
 pub fn piece(
     t: Table,
     present: &mut [bool; ROWS],
@@ -75,6 +76,7 @@ pub fn pieces(
     while at < script.len() {
         let log = behind(script, at, b':');
         let next = behind(script, log, b';');
+        // A label without a log ends the script.
         if next == log {
             return t;
         }

@@ -55,6 +55,7 @@ fn outcome(answer: u8, writer: Writer, last: u8, lock: u8) -> Acted
     }
 }
 
+// A writer with no operation.
 pub fn ready() -> Writer
     ensures { λ r. ⌜ r ≡ state.ready ⌝ }
 {

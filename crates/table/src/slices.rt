@@ -77,6 +77,7 @@ pub fn slice_present(rows: &mut [bool; ROWS], base: usize, ts: usize, key: usize
     rows[row] = put;
 }
 
+// The same for the values.
 pub fn slice_values(rows: &mut [Value; ROWS], base: usize, ts: usize, key: usize, value: Value)
     requires { ⌜ (base ≤ timestamps) × (((0 < ts) × (ts ≤ timestamps)) × (key < keys)) ⌝ }
     ensures { λ _. ⌜ now (rows .exit) ≡ sliced 0 (now (rows .entry)) base ts key value ⌝ }

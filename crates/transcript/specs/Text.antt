@@ -27,6 +27,7 @@ unfoldable pub decimalIn : ℕ → ℕ → List ℕ
 decimalIn zero n = (zeroDigit + n) ∷ []
 decimalIn (suc k) n = cond (ltb n 10) ((zeroDigit + n) ∷ []) (decimalIn k (n / 10) ++ (zeroDigit + n % 10) ∷ [])
 
+-- a number of at most 64 bits in decimal
 unfoldable pub decimal : ℕ → List ℕ
 decimal n = decimalIn (maxDigits - 1) n
 
