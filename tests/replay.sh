@@ -3,6 +3,7 @@
 # Needs the built program. Prints nothing and exits with 0 where every case holds; else prints the failing case and exits with 1.
 set -u
 cd "$(dirname "$0")/.." || { echo 'tests/replay.sh: no such directory'; exit 1; }
+[ -x target/bin/replay ] || { echo 'tests/replay.sh: target/bin/replay is not built (rt check replay)'; exit 1; }
 log=crates/replay/stdin
 text=crates/replay/stdout
 dir=$(mktemp -d) || { echo 'tests/replay.sh: no temporary directory'; exit 1; }
