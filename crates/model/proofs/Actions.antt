@@ -2,22 +2,23 @@
 use Prim.Native.Nat.{ℕ, suc, _+_, _-_, _<_, _≤_, zero-le}
 use native.Mathlib.Nat.{le-refl, le-trans}
 use native.Mathlib.Omega.{arith}
-use mathlib.Core.Bool.{Bool}
+use mathlib.Core.Bool.{Bool, true}
 use mathlib.Core.List.{List}
 use mathlib.Core.Path.{_≡_, refl}
-use lib.ListN.{set}
+use mathlib.Core.Logic.{_≢_}
+use lib.ListN.{getD, set}
 use Rattle.model.specs.Limits.{writers, keys, groups, timestamps}
-use Rattle.model.specs.Answers.{taken, noWriter, outOfRange}
-use Rattle.model.specs.State.{Shared, shared, completed, ready}
-use Rattle.model.specs.Rules.{Outcome, outcome, keyOf, groupOf, begun, moved, ended, act}
+use Rattle.model.specs.Answers.{taken, aborted, outOfRange}
+use Rattle.model.specs.State.{Shared, withLast, withLock, withIndex, withTimeline, withPresent, withValues, completed, ready}
+use Rattle.model.specs.Rules.{withInstant, keyOf, groupOf, begun, moved, Verdict, Outcome, outcome, closed, carried, act}
 use Rattle.model.specs.declared.Writer.{Writer}
 use Rattle.model.specs.declared.Operation.{Operation}
 use Rattle.model.specs.declared.Operation.the-variants.{Put, Remove}
 use Rattle.model.specs.declared.Action.{Action}
-use Rattle.model.proofs.Cases.{cond-iff, by-test, set-ind}
+use Rattle.common.proofs.Cases.{cond-iff, by-test, set-ind}
 use Rattle.model.proofs.CompletedInstants.{newest-of}
-use Rattle.model.proofs.Outcomes.{Acted, isRefused, isEnded, hasStarted, hasFound, hasProposed, hasRead, hasWritten, hasEntered, hasChecked, hasCommitted, acts}
-use Rattle.model.proofs.Ranged.{WriterRanged, InstantRanged, MetadataRanged, SharedRanged}
+use Rattle.model.proofs.Outcomes.{Ruling, isRefused, isEnded, hasStarted, hasFound, hasProposed, hasRead, hasWritten, hasEntered, hasChecked, hasCommitted, rules}
+use Rattle.model.proofs.Ranged.{WriterRanged, InstantRanged, SharedRanged}
 
 ready-ranged : (last : ℕ) → WriterRanged last ready
 ready-ranged last = omega arith
@@ -26,31 +27,30 @@ begun-ranged : (op : Operation) (n : ℕ) → (0 < n) × (keyOf op < keys) × (g
 begun-ranged (Put k v g) n h = omega arith
 begun-ranged (Remove k) n h = omega arith
 
-module _ {last lock : ℕ} {index timeline : List ℕ} (f : MetadataRanged last lock index timeline) where
-  with-lock : {l : ℕ} → l ≤ writers → MetadataRanged last l index timeline
-  with-lock h = record { last = f .last; lock = h; entry = f .entry; instant = f .instant }
+-- a setter keeps what is in range, if the new field is
+module _ {s : Shared} (f : SharedRanged s) where
+  with-lock : {l : ℕ} → l ≤ writers → SharedRanged (withLock s l)
+  with-lock h = search
 
-  with-entry : (k : ℕ) {e : ℕ} → e ≤ groups → MetadataRanged last lock (set index k e) timeline
-  with-entry k {e} h =
-      record {
-        last = f .last;
-        lock = f .lock;
-        entry = set-ind (λ k v. k < keys → v ≤ groups) index k e 0 (λ _. h) (f .entry);
-        instant = f .instant;
-      }
+  with-index : {i : List ℕ} → ((k : ℕ) → k < keys → getD i k 0 ≤ groups) → SharedRanged (withIndex s i)
+  with-index h = search
+
+  with-rows : {p : List Bool} {v : List ℕ} → SharedRanged (withValues (withPresent s p) v)
+  with-rows = search
+
+  -- the last timestamp and the timeline
+  with-times : {m : ℕ} {t : List ℕ} → m ≤ timestamps → ((i : ℕ) → i < timestamps → InstantRanged m i (getD t i 0))
+      → SharedRanged (withTimeline (withLast s m) t)
+  with-times h g = search
 
   -- an instant at a place i below the last timestamp, which may have grown to m
-  with-instant : {m i y : ℕ} → (last ≤ m) × (m ≤ timestamps) × (i < m) × (y < completed groups) → MetadataRanged m lock index (set timeline i y)
+  with-instant : {m i y : ℕ} → (s .last ≤ m) × (m ≤ timestamps) × (i < m) × (y < completed groups)
+      → SharedRanged (withTimeline (withLast s m) (set (s .timeline) i y))
   with-instant {m} {i} {y} (g, t, l, c) =
-      record {
-        last = t;
-        lock = f .lock;
-        entry = f .entry;
-        instant =
-            set-ind (λ j v. j < timestamps → InstantRanged m j v) timeline i y 0
-            (λ _. record { coded = c; above = λ a. absurd (omega arith) })
-            (λ j b. record { coded = f .instant j b .coded; above = λ a. f .instant j b .above (le-trans g a) });
-      }
+      with-times t
+      (set-ind (λ j v. j < timestamps → InstantRanged m j v) (s .timeline) i y 0
+      (λ _. record { coded = c; above = λ a. absurd (omega arith) })
+      (λ j b. record { coded = f .instant j b .coded; above = λ a. f .instant j b .above (le-trans g a) }))
 
 -- after an action all is in range, and no timestamp is taken back
 pub record Kept (last : ℕ) (o : Outcome) : Type 0 where
@@ -60,45 +60,38 @@ pub record Kept (last : ℕ) (o : Outcome) : Type 0 where
 
 module _ (x : Writer) (w : ℕ) (s : Shared) where
   pub record Sound (o : Outcome) : Type 0 where
-    pub answer : o .answer < outOfRange
-    pub refused : noWriter ≤ o .answer → o ≡ outcome (o .answer) x s
+    pub answer : o .answer ≢ outOfRange
+    pub refused : aborted < o .answer → o ≡ outcome (o .answer) x s
     pub kept : w < writers → SharedRanged s → WriterRanged (s .last) x → Kept (s .last) o
 
-  -- answered 10 or more: nothing changes
-  refuses : {n : ℕ} → (noWriter ≤ n) × (n < outOfRange) → Sound (outcome n x s)
-  refuses h =
-      record { answer = h .1; refused = λ _. refl; kept = λ l f g. record { shared = f; writer = g; grows = le-refl (s .last) } }
-
-  -- answered less
-  accepts : {o : Outcome} → o .answer < noWriter → (w < writers → SharedRanged s → WriterRanged (s .last) x → Kept (s .last) o) → Sound o
+  -- not refused
+  accepts : {o : Outcome} → o .answer ≤ aborted → (w < writers → SharedRanged s → WriterRanged (s .last) x → Kept (s .last) o) → Sound o
   accepts h k = record { answer = omega arith; refused = λ a. absurd (omega arith); kept = k }
 
-  module _ {l : ℕ} {index timeline : List ℕ} {present : List Bool} {values : List ℕ} where
-    -- the writer is ready again, and the lock free if it held it
-    ends : {n : ℕ} → n < noWriter → (SharedRanged s → WriterRanged (s .last) x → MetadataRanged (s .last) l index timeline)
-        → Sound (ended n w (shared (s .last) l index timeline present values))
-    ends h k =
-        accepts h
-        (λ _ f g.
-        record {
-          shared = with-lock (k f g) (simp (cond-iff (λ m. m ≤ writers)) (λ _. zero-le, λ _. k f g .lock));
-          writer = ready-ranged (s .last);
-          grows = le-refl (s .last);
-        })
+  -- the writer is ready again, and the lock free if it held it
+  closes : {n : ℕ} {t : Shared} → n ≤ aborted → t .last ≡ s .last → (SharedRanged s → WriterRanged (s .last) x → SharedRanged t) → Sound (closed n w t)
+  closes h e k =
+      accepts h
+      (λ _ f g.
+      record {
+        shared = with-lock (k f g) (simp (cond-iff (λ m. m ≤ writers)) (λ _. zero-le, λ _. k f g .lock));
+        writer = ready-ranged _;
+        grows = omega arith;
+      })
 
-    -- the writer goes on to phase p, with file group h and base b
-    moves : {n p h b : ℕ} → x .phase ≡ suc n → p ≤ 6
-        → (w < writers → SharedRanged s → WriterRanged (s .last) x → (h < groups) × (b ≤ s .last) × MetadataRanged (s .last) l index timeline)
-        → Sound (outcome taken (moved x p h b) (shared (s .last) l index timeline present values))
-    moves e i k =
-        accepts (omega arith)
-        (λ v f g.
-        record {
-          shared = k v f g .2;
-          writer =
-              record { key = g .key; group = k v f g .0; phase = i; ts = g .ts; base = k v f g .1; issued = λ _. g .issued (omega arith) };
-          grows = le-refl (s .last);
-        })
+  -- the writer goes on to phase p, with file group h and base b
+  moves : {n p h b : ℕ} {t : Shared} → t .last ≡ s .last → x .phase ≡ suc n → p ≤ 6
+      → (w < writers → SharedRanged s → WriterRanged (s .last) x → (h < groups) × (b ≤ s .last) × SharedRanged t)
+      → Sound (outcome taken (moved x p h b) t)
+  moves e at i k =
+      accepts (omega arith)
+      (λ v f g.
+      record {
+        shared = k v f g .2;
+        writer =
+            rw e (record { key = g .key; group = k v f g .0; phase = i; ts = g .ts; base = k v f g .1; issued = λ _. g .issued (omega arith) });
+        grows = omega arith;
+      })
 
   -- as they were
   same : w < writers → SharedRanged s → WriterRanged (s .last) x → (x .group < groups) × (x .base ≤ s .last) × SharedRanged s
@@ -106,27 +99,30 @@ module _ (x : Writer) (w : ℕ) (s : Shared) where
 
   -- the instant of the writer's timestamp changed
   own-instant : {n y : ℕ} → x .phase ≡ suc n → SharedRanged s → WriterRanged (s .last) x → y < completed groups
-      → MetadataRanged (s .last) (s .lock) (s .index) (set (s .timeline) (x .ts - 1) y)
+      → SharedRanged (withInstant s (x .ts) y)
   own-instant e f g c = with-instant f (omega (arith, g .issued (omega arith)))
 
-  outcome-sound : {a : Action} {o : Outcome} → Acted x w s a o → Sound o
-  outcome-sound (isRefused a n h) = refuses h
-  outcome-sound (isEnded a n h) = ends (omega arith) (λ f _. f)
-  outcome-sound (hasStarted op k g p l) =
+  ruling-sound : {a : Action} {v : Verdict} → Ruling x w s a v → Sound (carried x w s v)
+  ruling-sound (isRefused a n h) =
+      record { answer = h .1; refused = λ _. refl; kept = λ l f g. record { shared = f; writer = g; grows = le-refl (s .last) } }
+  ruling-sound (isEnded a n h) = closes (omega arith) refl (λ f _. f)
+  ruling-sound (hasStarted op k g p l) =
       accepts (omega arith)
       (λ _ f _. record { shared = with-instant f (omega arith); writer = begun-ranged op (s .last + 1) (omega arith); grows = omega arith })
-  outcome-sound (hasFound p i) = moves p (omega arith) (λ _ f g. (omega (arith, f .entry (x .key) (g .key)), g .base, f))
-  outcome-sound (hasProposed p put) = moves p (omega arith) same
-  outcome-sound (hasRead p le) =
-      moves p (omega arith) (λ _ f g. (g .group, newest-of (s .timeline) (x .group) (s .last) .below, own-instant p f g (omega arith)))
-  outcome-sound (hasWritten p) = moves p (omega arith) same
-  outcome-sound (hasEntered i p e) =
-      moves p (omega arith)
+  ruling-sound (hasFound p i) = moves refl p (omega arith) (λ _ f g. (omega (arith, f .entry (x .key) (g .key)), g .base, f))
+  ruling-sound (hasProposed p put) = moves refl p (omega arith) same
+  ruling-sound (hasRead p le) =
+      moves refl p (omega arith) (λ _ f g. (g .group, newest-of (s .timeline) (x .group) (s .last) .below, own-instant p f g (omega arith)))
+  ruling-sound (hasWritten p) = moves refl p (omega arith) (λ _ f g. (g .group, g .base, with-rows f))
+  ruling-sound (hasEntered i p e) =
+      moves refl p (omega arith)
       (λ v f g.
-      let t = with-lock f {l = w + 1} (omega arith) in
-      (g .group, g .base, by-test (x .put) (λ put. rw (e .put put) (with-entry t (x .key) (omega arith))) (λ remove. rw (e .remove remove) t)))
-  outcome-sound (hasChecked p le) = moves p (omega arith) same
-  outcome-sound (hasCommitted i p done) = ends (omega arith) (λ f g. own-instant p f g (omega arith))
+      let put : x .put ≡ true → (k : ℕ) → k < keys → getD i k 0 ≤ groups
+      = λ put. rw (e .put put) (set-ind (λ k v. k < keys → v ≤ groups) (s .index) (x .key) _ 0 (λ _. omega (arith, g .group)) (f .entry)) in
+      (g .group, g .base, with-lock (with-index f (by-test (x .put) put (λ remove. rw (e .remove remove) (f .entry)))) (omega arith)))
+  ruling-sound (hasChecked p le) = moves refl p (omega arith) same
+  ruling-sound (hasCommitted i p done) = closes (omega arith) refl (λ f g. own-instant p f g (omega arith))
 
   pub act-sound : (a : Action) → Sound (act x w s a)
-  act-sound a = outcome-sound (acts x w s a)
+  unfolding act
+  act-sound a = ruling-sound (rules x w s a)

@@ -3,11 +3,11 @@ use Prim.Native.Nat.{ℕ, _≤_}
 use mathlib.Core.Path.{_≡_, refl, sym, subst, subst⁻¹, ap, _∙_}
 use mathlib.Core.Option.{Option, none, some, map-eq-none-iff}
 use native.Mathlib.Omega.{arith}
-use Rattle.model.specs.Counting.{upd}
+use Rattle.common.specs.Counting.{upd}
 use Rattle.model.specs.State.{ready}
 use Rattle.model.specs.History.{Pending, Committed, joined}
 use Rattle.model.specs.declared.Writer.{Writer}
-use Rattle.model.proofs.Functions.{none-some, some-inj, upd-same, upd-other, upd-ind}
+use Rattle.common.proofs.Functions.{none-some, some-inj, upd-same, upd-other, upd-ind}
 use Rattle.model.proofs.Newest.{newest-kept}
 use Rattle.model.proofs.CommittedAt.{committedAt, groupIn}
 use Rattle.model.proofs.Moves.{View, leaves, afterCommit}
@@ -49,6 +49,7 @@ module _ (v : View) (w : ℕ) (i : Invariant v) where
               (λ q le. absurd (omega (arith, latest s (e ∙ ap {B = Option ℕ} some (sym q)), based .before, inProgress .positive)));
           entry = λ k g e. e;
           cell = λ s g e. refl;
+          stored = λ s g e. refl;
         }
 
     -- its base is the newest of its group before it
@@ -60,6 +61,7 @@ module _ (v : View) (w : ℕ) (i : Invariant v) where
               newest-kept (inProgress .uncompleted) (x .group) (λ q le. absurd (omega (arith, inProgress .positive)))
               (record { below = omega (arith, based .before); hit = based .hit; most = λ s le. latest s });
           rows = λ k. rw (← same, inProgress .key, inProgress .left) (i .writer w .written (omega arith) k);
+          stored = i .writer w .stored (omega arith);
           indexed = rw (← same, inProgress .key) (i .writer w .indexed (omega arith));
         }
 
@@ -75,6 +77,7 @@ module _ (v : View) (w : ℕ) (i : Invariant v) where
                 pending = upd-other (v .history .pending) w none u ne;
                 uncompleted = λ q. upd-other (v .completed) (x .ts) (some (x .group)) (v .writer u .ts) (λ e. ne (i .apart u w q (omega arith) e));
                 cell = λ q. refl;
+                stored = λ q. refl;
                 locks = released-other (v .lock) w u ne .0;
                 holds = released-other (v .lock) w u ne .1;
                 latest = λ q. absurd (omega (arith, i .writer w .locks (omega arith), i .writer u .locks (omega arith)));

@@ -8,11 +8,11 @@ use mathlib.Core.Option.{Option, none, some, Option·map}
 use native.Mathlib.Omega.{arith}
 use lib.Dec.{eqb}
 use borrow.Author.Tests.{eq-eqb, le-leb, lt-leb, ltb-false}
-use Rattle.model.specs.Counting.{upd}
+use Rattle.common.specs.Counting.{upd}
 use Rattle.model.specs.Rules.{keyOf}
 use Rattle.model.specs.History.{Committed, newerOn, newestOn}
-use Rattle.model.proofs.Cases.{cond-iff, facts}
-use Rattle.model.proofs.Functions.{none-some, upd-same, upd-other, map-upd}
+use Rattle.common.proofs.Cases.{cond-iff, facts}
+use Rattle.common.proofs.Functions.{none-some, upd-same, upd-other, map-upd}
 use Rattle.model.proofs.Newest.{Newest, newest-kept, newest-moves}
 
 -- the committed operation of a timestamp

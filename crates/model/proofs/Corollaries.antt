@@ -2,7 +2,8 @@
 --     lock-excludes      while a writer holds the lock, no other writer's step changes the rows at any timestamp, and so no scan
 --     abort-frees        an abort by the lock's holder frees the lock
 --     point-read-listed  a point read gives the key's row of the history's listing, or absent
---     slice-stays        the slice of a committed operation never changes
+--     slice-there        the table still has the slice that a committed operation's write step stored
+--     slice-stays        and later write steps store none in its place
 use Prim.Native.Nat.{ℕ, _+_, _<_}
 use mathlib.Core.Path.{_≡_, refl, sym, ap, _∙_}
 use mathlib.Core.Logic.{_≢_}
@@ -11,8 +12,9 @@ use mathlib.Core.Option.{some}
 use native.Mathlib.Omega.{arith}
 use borrow.Author.Tests.{eq-eqb, ne-eqb, lt-leb}
 use Rattle.model.specs.Limits.{writers, keys}
-use Rattle.model.specs.Counting.{listBelow}
-use Rattle.model.specs.Rules.{act, abort, step}
+use Rattle.common.specs.Counting.{listBelow}
+use Rattle.model.specs.State.{cell}
+use Rattle.model.specs.Rules.{abort, ruled, act, stepTested, step}
 use Rattle.model.specs.Snapshot.{rowsAt, firstOf, pointRead}
 use Rattle.model.specs.History.{Committed, started, dropped, newestOn, rowOfNewest, listing}
 use Rattle.model.specs.Isolation.{Execution, next, beginning, after, committedSlice}
@@ -52,7 +54,7 @@ lock-excludes ss w held s other = rows-stay (after ss) (reached ss) s (omega ari
 
 pub abort-frees : (ss : List Step) (w : ℕ) → after ss .state .shared .lock ≡ w + 1
     → step (after ss .state) (record { writer = w; action = Abort }) .state .shared .lock ≡ 0
-unfolding step act abort
+unfolding step stepTested act ruled abort
 abort-frees ss w held =
     let u = after ss in
     let h = reached ss in
@@ -68,15 +70,15 @@ pub point-read-listed : (ss : List Step) (t k : ℕ) → k < keys
 unfolding pointRead
 point-read-listed ss t k small = rw (reached ss .ranged, lt-leb keys k small, rows-of (after ss) (reached ss) t k small)
 
--- what is completed stays so, with its slice
+-- what is completed stays so, and what its write step stored
 record Stored (s g : ℕ) (v n : View) : Type 0 where
   completed : n .completed s ≡ some g
-  cell : n .cell s ≡ v .cell s
+  stored : n .stored s ≡ v .stored s
 
 move-stored : (s g : ℕ) (v n m : View) (w : ℕ) → Invariant n → Move n w m → Stored s g v n → Stored s g v m
 move-stored s g v n m w i move h =
     let kept = move-keeps n m w i move .shared in
-    record { completed = kept .completed s g (h .completed); cell = kept .cell s g (λ p. h .completed) ∙ h .cell }
+    record { completed = kept .completed s g (h .completed); stored = kept .stored s g (h .completed) ∙ h .stored }
 
 pub slice-stays : (ss more : List Step) (c : Committed) → List·Memᴰ c (after ss .history .done)
     → committedSlice (after (ss ++ more)) c ≡ committedSlice (after ss) c
@@ -87,5 +89,12 @@ slice-stays ss more c m =
     let stored =
     executed-keeps (λ n. Consistent n × Stored (c .ts) (c .group) (viewOf u) (viewOf n))
     (λ n x (r, s). (step-consistent n x r, move-stored (c .ts) (c .group) (viewOf u) _ _ (x .writer) (r .invariant) (step-moves n x r) s))
-    u more (h, record { completed = completed; cell = refl }) in
-    rw (executed-append beginning ss more) (stored .1 .cell)
+    u more (h, record { completed = completed; stored = refl }) in
+    rw (executed-append beginning ss more) (stored .1 .stored)
+
+-- the table has the slice of a committed operation as its write step stored it
+pub slice-there : (ss : List Step) (c : Committed) → List·Memᴰ c (after ss .history .done)
+    → cell (after ss .state .shared .present) (after ss .state .shared .values) (c .group) (c .ts) ≡ committedSlice (after ss) c
+slice-there ss c m =
+    let i = reached ss .invariant in
+    sym (i .committed (c .ts) c (committedAt-mem (after ss .history .done) (i .distinct) c m) .stored)

@@ -4,14 +4,14 @@ use Prim.Native.Nat.{ℕ, pred, _+_, _≤_, _<_}
 use mathlib.Core.Path.{_≡_, ap, _∙_}
 use mathlib.Core.Bool.{false}
 use mathlib.Core.Option.{Option, none, some}
-use Rattle.model.specs.Counting.{upd}
+use Rattle.common.specs.Counting.{upd}
 use Rattle.model.specs.Rules.{keyOf}
 use Rattle.model.specs.History.{Pending, Committed}
 use Rattle.model.specs.declared.Writer.{Writer}
 use Rattle.model.specs.declared.Operation.{Operation}
 use Rattle.model.proofs.Newest.{Newest}
 use Rattle.model.proofs.CommittedAt.{committedAt, Distinct, groupIn}
-use Rattle.model.proofs.Moves.{View, leftBy, leaves}
+use Rattle.model.proofs.Moves.{View, leftBy, leaves, rowsStored}
 
 -- an operation in progress: `o` is the history's pending one, on key k, leaving r there, under the timestamp n;
 -- n is issued, and nothing is completed at it (`done` is what is)
@@ -36,7 +36,8 @@ pub record WriterFacts (v : View) (w : ℕ) (x : Writer) : Type 0 where
   pub inProgress : 0 < x .phase → InProgress (v .history .pending w) (v .last) (v .completed (x .ts)) (x .key) (leaves x) (x .ts)
   pub removes : 1 < x .phase → x .put ≡ false → v .entry (x .key) ≡ x .group + 1
   pub based : 2 < x .phase → Based (v .completed) (x .group) (x .base) (x .ts)
-  pub written : 3 < x .phase → (k : ℕ) → v .cell (x .ts) k ≡ upd (v .cell (x .base)) (x .key) (leaves x) k
+  pub written : 3 < x .phase → (k : ℕ) → v .cell (x .group) (x .ts) k ≡ rowsStored (v .cell) x k
+  pub stored : 3 < x .phase → v .stored (x .ts) ≡ v .cell (x .group) (x .ts)
   pub indexed : 4 < x .phase → v .entry (x .key) ≡ x .group + 1
   pub locks : 4 < x .phase → v .lock ≡ w + 1
   pub holds : v .lock ≡ w + 1 → 4 < x .phase
@@ -46,7 +47,8 @@ pub record WriterFacts (v : View) (w : ℕ) (x : Writer) : Type 0 where
 pub record CommittedFacts (v : View) (s g : ℕ) (op : Operation) : Type 0 where
   pub base : ℕ
   pub newest : Newest (v .completed) g (pred s) base
-  pub rows : (k : ℕ) → v .cell s k ≡ upd (v .cell base) (keyOf op) (leftBy op) k
+  pub rows : (k : ℕ) → v .cell g s k ≡ upd (v .cell g base) (keyOf op) (leftBy op) k
+  pub stored : v .stored s ≡ v .cell g s
   pub indexed : v .entry (keyOf op) ≡ g + 1
 
 pub record Invariant (v : View) : Type 0 where
@@ -54,7 +56,7 @@ pub record Invariant (v : View) : Type 0 where
   pub distinct : Distinct (v .history .done)
   pub linked : (s : ℕ) → v .completed s ≡ groupIn (committedAt (v .history .done) s)
   pub above : (s : ℕ) → v .last < s → v .completed s ≡ none
-  pub empty : (k : ℕ) → v .cell 0 k ≡ none
+  pub empty : (g k : ℕ) → v .cell g 0 k ≡ none
   pub committed : (s : ℕ) (c : Committed) → committedAt (v .history .done) s ≡ some c → CommittedFacts v s (c .group) (c .operation)
   pub writer : (w : ℕ) → WriterFacts v w (v .writer w)
   pub apart : (a b : ℕ) → 0 < v .writer a .phase → 0 < v .writer b .phase → v .writer a .ts ≡ v .writer b .ts → a ≡ b

@@ -7,7 +7,7 @@ use Rattle.model.specs.State.{ready}
 use Rattle.model.specs.Rules.{begun}
 use Rattle.model.specs.History.{Pending, started, dropped}
 use Rattle.model.specs.declared.Operation.{Operation}
-use Rattle.model.proofs.Functions.{upd-same, upd-other}
+use Rattle.common.proofs.Functions.{upd-same, upd-other}
 use Rattle.model.proofs.Moves.{View, afterStart, afterEnd, Move, stays, starts, continues, ends, commits}
 use Rattle.model.proofs.Invariant.{Invariant}
 use Rattle.model.proofs.Kept.{Kept, unchanged, uncommitted}
@@ -27,13 +27,14 @@ module _ (v : View) (w : ℕ) (i : Invariant v) where
       uncommitted v n w x i
       (record {
         writer = refl;
-        shared = unchanged v n (omega arith) refl refl refl;
+        shared = unchanged v n (omega arith) refl refl refl refl;
         others =
             λ u ne.
             record {
               pending = upd-other (v .history .pending) w (some p) u ne;
               uncompleted = λ q. refl;
               cell = λ q. refl;
+              stored = λ q. refl;
               locks = λ e. e;
               holds = λ e. e;
               latest = λ q s e. e;
@@ -62,13 +63,14 @@ module _ (v : View) (w : ℕ) (i : Invariant v) where
       uncommitted v (afterEnd v w) w ready i
       (record {
         writer = refl;
-        shared = unchanged v (afterEnd v w) (omega arith) refl refl refl;
+        shared = unchanged v (afterEnd v w) (omega arith) refl refl refl refl;
         others =
             λ u ne.
             record {
               pending = upd-other (v .history .pending) w none u ne;
               uncompleted = λ q. refl;
               cell = λ q. refl;
+              stored = λ q. refl;
               locks = released-other (v .lock) w u ne .0;
               holds = released-other (v .lock) w u ne .1;
               latest = λ q s e. e;
@@ -80,7 +82,7 @@ module _ (v : View) (w : ℕ) (i : Invariant v) where
 
 pub move-keeps : (v n : View) (w : ℕ) → Invariant v → Move v w n → Kept v n
 move-keeps v n w i (stays e) =
-    subst⁻¹ (Kept v) e (record { shared = unchanged v v (omega arith) refl refl refl; invariant = i })
+    subst⁻¹ (Kept v) e (record { shared = unchanged v v (omega arith) refl refl refl refl; invariant = i })
 move-keeps v n w i (starts op at e) = subst⁻¹ (Kept v) e (start-keeps v w i op at)
 move-keeps v n w i (continues p e) = subst⁻¹ (Kept v) e (phase-keeps v w i p)
 move-keeps v n w i (ends e) = subst⁻¹ (Kept v) e (end-keeps v w i)

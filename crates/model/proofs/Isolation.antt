@@ -7,13 +7,13 @@ use mathlib.Core.Option.{none, some}
 use native.Mathlib.Omega.{arith}
 use lib.ListN.{replicate}
 use Rattle.model.specs.Limits.{writers, keys, timestamps}
-use Rattle.model.specs.Counting.{upd, listBelow}
+use Rattle.common.specs.Counting.{upd, listBelow}
 use Rattle.model.specs.State.{ready, fresh}
 use Rattle.model.specs.History.{Pending, History, empty, started, joined, dropped, newestOn, rowOfNewest, listing}
 use Rattle.model.specs.Isolation.{Execution, executed, beginning, after, Isolated}
 use Rattle.model.specs.declared.Writer.{Writer}
 use Rattle.model.specs.declared.Step.{Step}
-use Rattle.model.proofs.Functions.{none-some, some-inj, upd-ind, getD-fresh}
+use Rattle.common.proofs.Functions.{none-some, some-inj, upd-ind, getD-fresh}
 use Rattle.model.proofs.CompletedInstants.{groupCompleted, completedAt}
 use Rattle.model.proofs.Executed.{executed-keeps, executed-append}
 use Rattle.model.proofs.RangeKept.{fresh-in-range}

@@ -6,11 +6,11 @@ use mathlib.Core.Path.{_≡_, refl, sym, subst⁻¹, ap, _∙_}
 use mathlib.Core.Logic.{_≢_}
 use mathlib.Core.Option.{Option, some}
 use native.Mathlib.Omega.{arith}
-use Rattle.model.specs.Counting.{upd}
+use Rattle.common.specs.Counting.{upd}
 use Rattle.model.specs.History.{Committed}
 use Rattle.model.specs.declared.Writer.{Writer}
 use Rattle.model.specs.declared.Operation.{Operation}
-use Rattle.model.proofs.Functions.{upd-ind}
+use Rattle.common.proofs.Functions.{upd-ind}
 use Rattle.model.proofs.Newest.{Newest}
 use Rattle.model.proofs.CommittedAt.{committedAt}
 use Rattle.model.proofs.Moves.{View}
@@ -22,13 +22,15 @@ pub record SharedKept (v n : View) : Type 0 where
   pub completed : (s g : ℕ) → v .completed s ≡ some g → n .completed s ≡ some g
   pub newest : (s g b : ℕ) → v .completed s ≡ some g → Newest (v .completed) g (pred s) b → Newest (n .completed) g (pred s) b
   pub entry : (k g : ℕ) → v .entry k ≡ g + 1 → n .entry k ≡ g + 1
-  pub cell : (s g : ℕ) → (0 < s → v .completed s ≡ some g) → n .cell s ≡ v .cell s
+  pub cell : (s g : ℕ) → (0 < s → v .completed s ≡ some g) → n .cell g s ≡ v .cell g s
+  pub stored : (s g : ℕ) → v .completed s ≡ some g → n .stored s ≡ v .stored s
 
 -- what it keeps for another writer u, whose record is x
 pub record OtherKept (v n : View) (u : ℕ) (x : Writer) : Type 0 where
   pub pending : n .history .pending u ≡ v .history .pending u
   pub uncompleted : 0 < x .phase → n .completed (x .ts) ≡ v .completed (x .ts)
-  pub cell : 0 < x .phase → n .cell (x .ts) ≡ v .cell (x .ts)
+  pub cell : 0 < x .phase → n .cell (x .group) (x .ts) ≡ v .cell (x .group) (x .ts)
+  pub stored : 0 < x .phase → n .stored (x .ts) ≡ v .stored (x .ts)
   pub locks : v .lock ≡ u + 1 → n .lock ≡ u + 1
   pub holds : n .lock ≡ u + 1 → v .lock ≡ u + 1
   pub latest : 5 < x .phase → (s : ℕ) → n .completed s ≡ some (x .group) → v .completed s ≡ some (x .group)
@@ -46,14 +48,16 @@ pub record Kept (v n : View) : Type 0 where
   pub shared : SharedKept v n
   pub invariant : Invariant n
 
-pub unchanged : (v n : View) → v .last ≤ n .last → n .completed ≡ v .completed → n .entry ≡ v .entry → n .cell ≡ v .cell → SharedKept v n
-unchanged v n last completed entry cell =
+pub unchanged : (v n : View) → v .last ≤ n .last → n .completed ≡ v .completed → n .entry ≡ v .entry → n .cell ≡ v .cell → n .stored ≡ v .stored
+    → SharedKept v n
+unchanged v n last completed entry cell stored =
     record {
       last = last;
       completed = λ s g e. rw completed e;
       newest = λ s g b e h. rw completed h;
       entry = λ k g e. rw entry e;
       cell = λ s g e. rw cell;
+      stored = λ s g e. rw stored;
     }
 
 module _ (v n : View) (k : SharedKept v n) where
@@ -77,6 +81,7 @@ module _ (v n : View) (k : SharedKept v n) where
         removes = λ p e. k .entry _ _ (f .removes p e);
         based = λ p. record { before = f .based p .before; hit = λ q. k .completed _ _ (f .based p .hit q) };
         written = λ p i. rw (o .cell (omega arith), k .cell (x .base) (x .group) (f .based (omega arith) .hit)) (f .written p i);
+        stored = λ p. o .stored (omega arith) ∙ f .stored p ∙ sym (o .cell (omega arith));
         indexed = λ p. k .entry _ _ (f .indexed p);
         locks = λ p. o .locks (f .locks p);
         holds = λ e. f .holds (o .holds e);
@@ -89,6 +94,7 @@ module _ (v n : View) (k : SharedKept v n) where
         base = f .base;
         newest = k .newest s g (f .base) e (f .newest);
         rows = λ i. rw (k .cell s g (λ p. e), k .cell (f .base) g (f .newest .hit)) (f .rows i);
+        stored = k .stored s g e ∙ f .stored ∙ sym (k .cell s g (λ p. e));
         indexed = k .entry _ _ (f .indexed);
       }
 
@@ -118,7 +124,7 @@ module _ (v n : View) (w : ℕ) (x : Writer) (i : Invariant v) (m : Moved v n w 
               distinct = rw done (i .distinct);
               linked = rw (done, completed) (i .linked);
               above = λ s p. rw completed (i .above s (omega (arith, m .shared .last)));
-              empty = λ k. ap (λ (c : ℕ → Option ℕ). c k) (m .shared .cell 0 0 (λ p. absurd (omega arith))) ∙ i .empty k;
+              empty = λ g k. ap (λ (c : ℕ → Option ℕ). c k) (m .shared .cell 0 g (λ p. absurd (omega arith))) ∙ i .empty g k;
               committed =
                   λ s c e.
                   let old : committedAt (v .history .done) s ≡ some c = rw done at e in

@@ -4,69 +4,70 @@ use mathlib.Core.Path.{_≡_, ap, _∙_}
 use mathlib.Core.List.{List}
 use mathlib.Core.Bool.{Bool, false}
 use lib.ListN.{length, getD, set, length-set, length-replicate}
-use Rattle.model.specs.Limits.{writers, keys, timestamps}
-use Rattle.model.specs.State.{Shared, State, ready, fresh}
-use Rattle.model.specs.Rules.{Outcome, Answered, step}
+use Rattle.model.specs.Limits.{writers, keys, timestamps, rows}
+use Rattle.model.specs.State.{Shared, State, withLast, withLock, withIndex, withTimeline, withPresent, withValues, ready, fresh}
+use Rattle.model.specs.Rules.{Verdict, carried, act, Answered, stepTested, step}
 use Rattle.model.specs.declared.Writer.{Writer}
 use Rattle.model.specs.declared.Action.{Action}
 use Rattle.model.specs.declared.Step.{Step}
-use Rattle.model.proofs.Cases.{cond-iff, by-test}
-use Rattle.model.proofs.Outcomes.{Acted, isRefused, isEnded, hasStarted, hasFound, hasProposed, hasRead, hasWritten, hasEntered, hasChecked, hasCommitted, acts}
+use Rattle.common.proofs.Cases.{cond-iff, by-test}
+use Rattle.model.proofs.Outcomes.{Ruling, isRefused, isEnded, hasStarted, hasFound, hasProposed, hasRead, hasWritten, hasEntered, hasChecked, hasCommitted, rules}
 use Rattle.model.proofs.Slices.{sliced-length}
 
-pub record Lengths (ws : List Writer) (is ts : List ℕ) (ps : List Bool) (vs : List ℕ) : Type 0 where
-  pub writers : length ws ≡ writers
-  pub index : length is ≡ keys
-  pub timeline : length ts ≡ timestamps
-  pub present : length ps ≡ timestamps * keys
-  pub values : length vs ≡ timestamps * keys
+pub record SharedSized (s : Shared) : Type 0 where
+  pub index : length (s .index) ≡ keys
+  pub timeline : length (s .timeline) ≡ timestamps
+  pub present : length (s .present) ≡ rows
+  pub values : length (s .values) ≡ rows
 
-abbrev pub SizedWith : List Writer → Shared → Type 0
-SizedWith ws s = Lengths ws (s .index) (s .timeline) (s .present) (s .values)
+pub record Sized (st : State) : Type 0 where
+  pub writers : length (st .writers) ≡ writers
+  pub shared : SharedSized (st .shared)
 
-abbrev pub Sized : State → Type 0
-Sized st = SizedWith (st .writers) (st .shared)
+-- a setter keeps the lengths, if the new list has the old one's
+module _ {s : Shared} (h : SharedSized s) where
+  with-lock : {l : ℕ} → SharedSized (withLock s l)
+  with-lock = search
 
-module _ {ws : List Writer} {is ts : List ℕ} {ps : List Bool} {vs : List ℕ} (h : Lengths ws is ts ps vs) where
-  writers-set : (w : ℕ) (x : Writer) → Lengths (set ws w x) is ts ps vs
-  writers-set w x =
-      record { writers = length-set ws w x ∙ h .writers; index = h .index; timeline = h .timeline; present = h .present; values = h .values }
+  with-index : {l : List ℕ} → length l ≡ keys → SharedSized (withIndex s l)
+  with-index e = search
 
-  index-of : (l : List ℕ) → length l ≡ length is → Lengths ws l ts ps vs
-  index-of l e = record { writers = h .writers; index = e ∙ h .index; timeline = h .timeline; present = h .present; values = h .values }
+  with-times : {m : ℕ} {l : List ℕ} → length l ≡ timestamps → SharedSized (withTimeline (withLast s m) l)
+  with-times e = search
 
-  instant-set : (n i : ℕ) → Lengths ws is (set ts n i) ps vs
-  instant-set n i =
-      record { writers = h .writers; index = h .index; timeline = length-set ts n i ∙ h .timeline; present = h .present; values = h .values }
+  with-rows : {p : List Bool} {v : List ℕ} → length p ≡ rows → length v ≡ rows → SharedSized (withValues (withPresent s p) v)
+  with-rows e f = search
 
-acted-sized : (x : Writer) (w : ℕ) (s : Shared) {a : Action} {o : Outcome} (ws : List Writer) → Acted x w s a o → SizedWith ws s → SizedWith ws (o .shared)
-acted-sized x w s ws (isRefused a n p) h = h
-acted-sized x w s ws (isEnded a n p) h = h
-acted-sized x w s ws (hasStarted op k g p l) h = instant-set h _ _
-acted-sized x w s ws (hasFound p q) h = h
-acted-sized x w s ws (hasProposed p q) h = h
-acted-sized x w s ws (hasRead p q) h = instant-set h _ _
-acted-sized x w s ws (hasWritten p) h =
-    record {
-      writers = h .writers;
-      index = h .index;
-      timeline = h .timeline;
-      present = sliced-length false (s .present) x (x .put) ∙ h .present;
-      values = sliced-length 0 (s .values) x (x .value) ∙ h .values;
-    }
-acted-sized x w s ws (hasEntered i p e) h =
-    index-of h i (by-test (x .put) (λ put. ap length (e .put put) ∙ length-set (s .index) _ _) (λ remove. ap length (e .remove remove)))
-acted-sized x w s ws (hasChecked p q) h = h
-acted-sized x w s ws (hasCommitted i p q) h = instant-set h _ _
+  with-instant : {m : ℕ} (i y : ℕ) → SharedSized (withTimeline (withLast s m) (set (s .timeline) i y))
+  with-instant i y = with-times (length-set (s .timeline) i y ∙ h .timeline)
+
+ruling-sized : (x : Writer) (w : ℕ) (s : Shared) {a : Action} {v : Verdict} → Ruling x w s a v → SharedSized s → SharedSized (carried x w s v .shared)
+ruling-sized x w s (isRefused a n p) h = h
+ruling-sized x w s (isEnded a n p) h = with-lock h
+ruling-sized x w s (hasStarted op k g p l) h = with-instant h _ _
+ruling-sized x w s (hasFound p q) h = h
+ruling-sized x w s (hasProposed p q) h = h
+ruling-sized x w s (hasRead p q) h = with-instant h _ _
+ruling-sized x w s (hasWritten p) h =
+    with-rows h (sliced-length false (s .present) x (x .put) ∙ h .present) (sliced-length 0 (s .values) x (x .value) ∙ h .values)
+ruling-sized x w s (hasEntered i p e) h =
+    with-lock
+    (with-index h
+    (by-test (x .put) (λ put. ap length (e .put put) ∙ length-set (s .index) _ _ ∙ h .index) (λ remove. ap length (e .remove remove) ∙ h .index)))
+ruling-sized x w s (hasChecked p q) h = h
+ruling-sized x w s (hasCommitted i p q) h = with-lock (with-instant h _ _)
 
 pub step-sized : (st : State) (s : Step) → Sized st → Sized (step st s .state)
-unfolding step
+unfolding step stepTested act
 step-sized st s h =
     let w = s .writer in
     let x : Writer = getD (st .writers) w ready in
     simp (cond-iff (λ (r : Answered). Sized (r .state))) (
       λ _. h,
-      λ _. (λ _. h, λ _. writers-set (acted-sized x w (st .shared) (st .writers) (acts x w (st .shared) (s .action)) h) w _),
+      λ _. (
+        λ _. h,
+        λ _. record { writers = length-set (st .writers) w _ ∙ h .writers; shared = ruling-sized x w (st .shared) (rules x w (st .shared) (s .action)) (h .shared) },
+      ),
     )
 
 pub fresh-sized : Sized fresh
@@ -74,8 +75,11 @@ unfolding fresh
 fresh-sized =
     record {
       writers = length-replicate writers ready;
-      index = length-replicate {A = ℕ} keys 0;
-      timeline = length-replicate {A = ℕ} timestamps 0;
-      present = length-replicate (timestamps * keys) false;
-      values = length-replicate {A = ℕ} (timestamps * keys) 0;
+      shared =
+          record {
+            index = length-replicate {A = ℕ} keys 0;
+            timeline = length-replicate {A = ℕ} timestamps 0;
+            present = length-replicate rows false;
+            values = length-replicate {A = ℕ} rows 0;
+          };
     }

@@ -1,7 +1,3 @@
-pub mod EachBelow
-pub mod ListBelow
-pub mod Cases
-pub mod Functions
 pub mod Newest
 pub mod CompletedInstants
 pub mod CommittedAt

@@ -4,7 +4,7 @@ use mathlib.Core.Path.{_≡_}
 use mathlib.Core.Logic.{_≢_}
 use mathlib.Core.Bool.{true, false, cond}
 use mathlib.Core.Option.{Option, none, some}
-use Rattle.model.specs.Counting.{upd}
+use Rattle.common.specs.Counting.{upd}
 use Rattle.model.specs.State.{ready}
 use Rattle.model.specs.Rules.{begun, moved, released}
 use Rattle.model.specs.History.{Pending, History, started, joined, dropped}
@@ -19,9 +19,10 @@ pub record View : Type 0 where
   pub lock : ℕ
   pub entry : ℕ → ℕ  -- of each key: 0, or its file group + 1
   pub completed : ℕ → Option ℕ  -- the file group of each completed timestamp
-  pub cell : ℕ → ℕ → Option ℕ  -- the value of each key in the slice of each timestamp
+  pub cell : ℕ → ℕ → ℕ → Option ℕ  -- the value of each key in the slice of each file group and timestamp
   pub writer : ℕ → Writer
   pub history : History
+  pub stored : ℕ → ℕ → Option ℕ  -- the slices that the write steps stored, by timestamp
 
 -- what an operation, and a writer with its operation, leave at the key
 abbrev pub leftBy : Operation → Option ℕ
@@ -30,6 +31,13 @@ leftBy (Remove k) = none
 
 abbrev pub leaves : Writer → Option ℕ
 leaves x = cond (x .put) (some (x .value)) none
+
+-- the slices once a writer has stored its own: the rows of its base, with its key put or removed
+abbrev pub rowsStored : (ℕ → ℕ → ℕ → Option ℕ) → Writer → ℕ → Option ℕ
+rowsStored cell x = upd (cell (x .group) (x .base)) (x .key) (leaves x)
+
+abbrev pub storing : (ℕ → ℕ → ℕ → Option ℕ) → Writer → ℕ → ℕ → ℕ → Option ℕ
+storing cell x = upd cell (x .group) (upd (cell (x .group)) (x .ts) (rowsStored cell x))
 
 -- writer w starts an operation
 abbrev pub afterStart : View → ℕ → Operation → View
@@ -42,11 +50,12 @@ afterStart v w op =
       cell = v .cell;
       writer = upd (v .writer) w (begun op (v .last + 1));
       history = started (v .history) w (Start op);
+      stored = v .stored;
     }
 
--- writer w goes on as x, with the lock, the index and the slices given
-abbrev pub afterPhase : View → ℕ → Writer → ℕ → (ℕ → ℕ) → (ℕ → ℕ → Option ℕ) → View
-afterPhase v w x lock entry cell =
+-- writer w goes on as x, with the lock, the index, the slices and what is stored given
+abbrev pub afterPhase : View → ℕ → Writer → ℕ → (ℕ → ℕ) → (ℕ → ℕ → ℕ → Option ℕ) → (ℕ → ℕ → Option ℕ) → View
+afterPhase v w x lock entry cell stored =
     record {
       last = v .last;
       lock = lock;
@@ -55,6 +64,7 @@ afterPhase v w x lock entry cell =
       cell = cell;
       writer = upd (v .writer) w x;
       history = v .history;
+      stored = stored;
     }
 
 -- writer w's operation ends without commit
@@ -68,6 +78,7 @@ afterEnd v w =
       cell = v .cell;
       writer = upd (v .writer) w ready;
       history = dropped (v .history) w;
+      stored = v .stored;
     }
 
 -- writer w commits its pending operation p
@@ -81,27 +92,29 @@ afterCommit v w p =
       cell = v .cell;
       writer = upd (v .writer) w ready;
       history = joined (v .history) w (λ n. v .writer w .group) (some p);
+      stored = v .stored;
     }
 
 -- writer w, whose record is x, goes on to its next phase: what its record, the lock, the index and the slices become
-pub data NextPhase (v : View) (w : ℕ) (x : Writer) : Writer → ℕ → (ℕ → ℕ) → (ℕ → ℕ → Option ℕ) → Type 0 where
+pub data NextPhase (v : View) (w : ℕ) (x : Writer) : Writer → ℕ → (ℕ → ℕ) → (ℕ → ℕ → ℕ → Option ℕ) → (ℕ → ℕ → Option ℕ) → Type 0 where
   looksUp : (g : ℕ) → x .phase ≡ 1 → (x .put ≡ false → v .entry (x .key) ≡ g + 1)
-      → NextPhase v w x (moved x 2 g (x .base)) (v .lock) (v .entry) (v .cell)
+      → NextPhase v w x (moved x 2 g (x .base)) (v .lock) (v .entry) (v .cell) (v .stored)
   reads : (b : ℕ) → x .phase ≡ 2 → Newest (v .completed) (x .group) (v .last) b → b ≤ x .ts
-      → NextPhase v w x (moved x 3 (x .group) b) (v .lock) (v .entry) (v .cell)
+      → NextPhase v w x (moved x 3 (x .group) b) (v .lock) (v .entry) (v .cell) (v .stored)
   writes : x .phase ≡ 3
-      → NextPhase v w x (moved x 4 (x .group) (x .base)) (v .lock) (v .entry) (upd (v .cell) (x .ts) (upd (v .cell (x .base)) (x .key) (leaves x)))
+      → NextPhase v w x (moved x 4 (x .group) (x .base)) (v .lock) (v .entry) (storing (v .cell) x)
+      (upd (v .stored) (x .ts) (rowsStored (v .cell) x))
   indexes : (e : ℕ → ℕ) → (x .put ≡ true → e ≡ upd (v .entry) (x .key) (x .group + 1)) → (x .put ≡ false → e ≡ v .entry) → x .phase ≡ 4
       → (v .lock ≢ 0 → v .lock ≡ w + 1) → (v .entry (x .key) ≢ 0 → v .entry (x .key) ≡ x .group + 1)
-      → NextPhase v w x (moved x 5 (x .group) (x .base)) (w + 1) e (v .cell)
+      → NextPhase v w x (moved x 5 (x .group) (x .base)) (w + 1) e (v .cell) (v .stored)
   checks : (b : ℕ) → x .phase ≡ 5 → Newest (v .completed) (x .group) (v .last) b → b ≤ x .base
-      → NextPhase v w x (moved x 6 (x .group) (x .base)) (v .lock) (v .entry) (v .cell)
+      → NextPhase v w x (moved x 6 (x .group) (x .base)) (v .lock) (v .entry) (v .cell) (v .stored)
 
 -- what a step of writer w makes of a view
 pub data Move (v : View) (w : ℕ) (n : View) : Type 0 where
   stays : n ≡ v → Move v w n
   starts : (op : Operation) → v .writer w .phase ≡ 0 → n ≡ afterStart v w op → Move v w n
-  continues : {x : Writer} {l : ℕ} {e : ℕ → ℕ} {c : ℕ → ℕ → Option ℕ} → NextPhase v w (v .writer w) x l e c
-      → n ≡ afterPhase v w x l e c → Move v w n
+  continues : {x : Writer} {l : ℕ} {e : ℕ → ℕ} {c : ℕ → ℕ → ℕ → Option ℕ} {d : ℕ → ℕ → Option ℕ}
+      → NextPhase v w (v .writer w) x l e c d → n ≡ afterPhase v w x l e c d → Move v w n
   ends : n ≡ afterEnd v w → Move v w n
   commits : (p : Pending) → v .writer w .phase ≡ 6 → v .history .pending w ≡ some p → n ≡ afterCommit v w p → Move v w n

@@ -7,8 +7,8 @@ use mathlib.Core.Logic.{_≢_, by-cases}
 use mathlib.Core.Option.{Option, none, some}
 use native.Mathlib.Decide.{ℕ-discrete}
 use native.Mathlib.Omega.{arith}
-use Rattle.model.specs.Counting.{upd}
-use Rattle.model.proofs.Functions.{none-some, some-inj, upd-same, upd-other, upd-ind}
+use Rattle.common.specs.Counting.{upd}
+use Rattle.common.proofs.Functions.{none-some, some-inj, upd-same, upd-other, upd-ind}
 
 pub record Newest (d : ℕ → Option ℕ) (x n b : ℕ) : Type 0 where
   pub below : b ≤ n

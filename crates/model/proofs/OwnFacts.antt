@@ -11,7 +11,7 @@ use Rattle.model.specs.Rules.{keyOf, begun, released}
 use Rattle.model.specs.declared.Writer.{Writer}
 use Rattle.model.specs.declared.Operation.{Operation}
 use Rattle.model.specs.declared.Operation.the-variants.{Put, Remove}
-use Rattle.model.proofs.Cases.{cond-iff, facts}
+use Rattle.common.proofs.Cases.{cond-iff, facts}
 use Rattle.model.proofs.Moves.{View, leftBy, leaves}
 use Rattle.model.proofs.Invariant.{InProgress, Based, WriterFacts}
 
@@ -27,6 +27,7 @@ unwritten v w x early ready inProgress removes based unlocked =
       removes = removes;
       based = based;
       written = λ p. absurd (omega arith);
+      stored = λ p. absurd (omega arith);
       indexed = λ p. absurd (omega arith);
       locks = λ p. absurd (omega arith);
       holds = λ e. absurd (unlocked e);

@@ -4,24 +4,26 @@ use mathlib.Core.Path.{_≡_, refl, sym, _∙_}
 use mathlib.Core.Logic.{_≢_}
 use mathlib.Core.Option.{Option}
 use native.Mathlib.Omega.{arith}
-use Rattle.model.specs.Counting.{upd}
+use Rattle.common.specs.Counting.{upd}
 use Rattle.model.specs.declared.Writer.{Writer}
-use Rattle.model.proofs.Cases.{by-test}
-use Rattle.model.proofs.Functions.{none-some, upd-same, upd-other, upd-ind}
-use Rattle.model.proofs.Moves.{View, leaves, afterPhase, NextPhase, looksUp, reads, writes, indexes, checks}
+use Rattle.common.proofs.Cases.{by-test}
+use Rattle.common.proofs.Functions.{none-some, upd-same, upd-other, upd-ind}
+use Rattle.model.proofs.Moves.{View, rowsStored, storing, afterPhase, NextPhase, looksUp, reads, writes, indexes, checks}
 use Rattle.model.proofs.Invariant.{WriterFacts, Invariant}
 use Rattle.model.proofs.Kept.{SharedKept, Kept, unchanged, uncommitted}
+use Rattle.model.proofs.Slices.{stored-own, stored-other}
 use Rattle.model.proofs.OwnFacts.{unwritten}
 
 module _ (v : View) (w : ℕ) (i : Invariant v) where
   -- writer w goes on as x
-  continued : (x : Writer) (l : ℕ) (e : ℕ → ℕ) (c : ℕ → ℕ → Option ℕ) → 0 < v .writer w .phase → x .ts ≡ v .writer w .ts
-      → SharedKept v (afterPhase v w x l e c)
-      → ((u : ℕ) → u ≢ w → 0 < v .writer u .phase → c (v .writer u .ts) ≡ v .cell (v .writer u .ts))
+  continued : (x : Writer) (l : ℕ) (e : ℕ → ℕ) (c : ℕ → ℕ → ℕ → Option ℕ) (d : ℕ → ℕ → Option ℕ) → 0 < v .writer w .phase → x .ts ≡ v .writer w .ts
+      → SharedKept v (afterPhase v w x l e c d)
+      → ((u : ℕ) → u ≢ w → 0 < v .writer u .phase → c (v .writer u .group) (v .writer u .ts) ≡ v .cell (v .writer u .group) (v .writer u .ts))
+      → ((u : ℕ) → u ≢ w → 0 < v .writer u .phase → d (v .writer u .ts) ≡ v .stored (v .writer u .ts))
       → ((u : ℕ) → u ≢ w → (v .lock ≡ u + 1 → l ≡ u + 1) × (l ≡ u + 1 → v .lock ≡ u + 1))
-      → WriterFacts (afterPhase v w x l e c) w x → Kept v (afterPhase v w x l e c)
-  continued x l e c busy ts shared cells lock facts =
-      uncommitted v (afterPhase v w x l e c) w x i
+      → WriterFacts (afterPhase v w x l e c d) w x → Kept v (afterPhase v w x l e c d)
+  continued x l e c d busy ts shared cells kept lock facts =
+      uncommitted v (afterPhase v w x l e c d) w x i
       (record {
         writer = refl;
         shared = shared;
@@ -31,6 +33,7 @@ module _ (v : View) (w : ℕ) (i : Invariant v) where
               pending = refl;
               uncompleted = λ q. refl;
               cell = cells u ne;
+              stored = kept u ne;
               locks = lock u ne .0;
               holds = lock u ne .1;
               latest = λ q s r. r;
@@ -42,11 +45,12 @@ module _ (v : View) (w : ℕ) (i : Invariant v) where
 
   -- only its own record changes
   unshared : (x : Writer) → 0 < v .writer w .phase → x .ts ≡ v .writer w .ts
-      → WriterFacts (afterPhase v w x (v .lock) (v .entry) (v .cell)) w x → Kept v (afterPhase v w x (v .lock) (v .entry) (v .cell))
+      → WriterFacts (afterPhase v w x (v .lock) (v .entry) (v .cell) (v .stored)) w x → Kept v (afterPhase v w x (v .lock) (v .entry) (v .cell) (v .stored))
   unshared x busy ts =
-      continued x (v .lock) (v .entry) (v .cell) busy ts (unchanged v _ (omega arith) refl refl refl) (λ u ne q. refl) (λ u ne. (λ q. q, λ q. q))
+      continued x (v .lock) (v .entry) (v .cell) (v .stored) busy ts (unchanged v _ (omega arith) refl refl refl refl) (λ u ne q. refl) (λ u ne q. refl) (λ u ne. (λ q. q, λ q. q))
 
-  pub phase-keeps : {x : Writer} {l : ℕ} {e : ℕ → ℕ} {c : ℕ → ℕ → Option ℕ} → NextPhase v w (v .writer w) x l e c → Kept v (afterPhase v w x l e c)
+  pub phase-keeps : {x : Writer} {l : ℕ} {e : ℕ → ℕ} {c : ℕ → ℕ → ℕ → Option ℕ} {d : ℕ → ℕ → Option ℕ}
+      → NextPhase v w (v .writer w) x l e c d → Kept v (afterPhase v w x l e c d)
   phase-keeps (looksUp g at entry) =
       unshared _ (omega arith) refl
       (unwritten _ w _ (omega arith) (λ q. absurd (omega arith)) (λ q. i .writer w .inProgress (omega arith)) (λ q. entry) (λ q. absurd (omega arith))
@@ -60,23 +64,26 @@ module _ (v : View) (w : ℕ) (i : Invariant v) where
   phase-keeps (writes at) =
       let x = v .writer w in
       let p = i .writer w .inProgress (omega arith) in
-      let row : ℕ → Option ℕ = upd (v .cell (x .base)) (x .key) (leaves x) in
-      let other = upd-other (v .cell) (x .ts) row in
-      continued _ (v .lock) (v .entry) (upd (v .cell) (x .ts) row) (omega arith) refl
+      let other = stored-other (v .cell) x in
+      let otherwise = upd-other (v .stored) (x .ts) (rowsStored (v .cell) x) in
+      continued _ (v .lock) (v .entry) (storing (v .cell) x) (upd (v .stored) (x .ts) (rowsStored (v .cell) x)) (omega arith) refl
       (record {
         last = omega arith;
         completed = λ s g e. e;
         newest = λ s g b e h. h;
         entry = λ k g e. e;
-        cell = λ s g hit. other s (λ q. none-some (p .uncompleted) (rw q at (hit (omega (arith, p .positive)))));
+        cell = λ s g hit. other g s (λ _ q. none-some (p .uncompleted) (rw q at (hit (omega (arith, p .positive)))));
+        stored = λ s g hit. otherwise s (λ q. none-some (p .uncompleted) (rw q at hit));
       })
-      (λ u ne q. other (v .writer u .ts) (λ r. ne (i .apart u w q (omega arith) r))) (λ u ne. (λ q. q, λ q. q))
+      (λ u ne q. other (v .writer u .group) (v .writer u .ts) (λ _ r. ne (i .apart u w q (omega arith) r)))
+      (λ u ne q. otherwise (v .writer u .ts) (λ r. ne (i .apart u w q (omega arith) r))) (λ u ne. (λ q. q, λ q. q))
       (record {
         ready = λ q. absurd (omega arith);
         inProgress = λ q. p;
         removes = λ q. i .writer w .removes (omega arith);
         based = λ q. i .writer w .based (omega arith);
-        written = λ q k. rw (upd-same (v .cell) (x .ts) row, other (x .base) (λ r. omega (arith, i .writer w .based (omega arith) .before)));
+        written = λ q k. rw (stored-own (v .cell) x, other (x .group) (x .base) (λ _ r. omega (arith, i .writer w .based (omega arith) .before)));
+        stored = λ q. upd-same (v .stored) (x .ts) (rowsStored (v .cell) x) ∙ sym (stored-own (v .cell) x);
         indexed = λ q. absurd (omega arith);
         locks = λ q. absurd (omega arith);
         holds = λ q. absurd (omega (arith, i .writer w .holds q));
@@ -87,7 +94,7 @@ module _ (v : View) (w : ℕ) (i : Invariant v) where
       let entered : e (x .key) ≡ x .group + 1
       = by-test (x .put) (λ put. rw (enters put) (upd-same (v .entry) (x .key) (x .group + 1)))
       (λ remove. rw (untouched remove) (i .writer w .removes (omega arith) remove)) in
-      continued _ (w + 1) e (v .cell) (omega arith) refl
+      continued _ (w + 1) e (v .cell) (v .stored) (omega arith) refl
       (record {
         last = omega arith;
         completed = λ s g q. q;
@@ -100,14 +107,16 @@ module _ (v : View) (w : ℕ) (i : Invariant v) where
             (upd-ind (v .entry) (x .key) (x .group + 1) (λ k y. v .entry k ≡ g + 1 → y ≡ g + 1) (λ q. sym (same (λ z. omega arith)) ∙ q) (λ k ne q. q) k))
             (λ remove. rw (untouched remove) (λ q. q));
         cell = λ s g q. refl;
+        stored = λ s g q. refl;
       })
-      (λ u ne q. refl) (λ u ne. (λ q. sym (unlocked (λ z. omega arith)) ∙ q, λ q. absurd (omega arith)))
+      (λ u ne q. refl) (λ u ne q. refl) (λ u ne. (λ q. sym (unlocked (λ z. omega arith)) ∙ q, λ q. absurd (omega arith)))
       (record {
         ready = λ q. absurd (omega arith);
         inProgress = λ q. i .writer w .inProgress (omega arith);
         removes = λ q t. entered;
         based = λ q. i .writer w .based (omega arith);
         written = λ q. i .writer w .written (omega arith);
+        stored = λ q. i .writer w .stored (omega arith);
         indexed = λ q. entered;
         locks = λ q. refl;
         holds = λ q. omega arith;
@@ -121,6 +130,7 @@ module _ (v : View) (w : ℕ) (i : Invariant v) where
         removes = λ q. i .writer w .removes (omega arith);
         based = λ q. i .writer w .based (omega arith);
         written = λ q. i .writer w .written (omega arith);
+        stored = λ q. i .writer w .stored (omega arith);
         indexed = λ q. i .writer w .indexed (omega arith);
         locks = λ q. i .writer w .locks (omega arith);
         holds = λ q. omega arith;

@@ -8,16 +8,17 @@ use native.Mathlib.Omega.{arith}
 use mathlib.Core.Bool.{true, true≢false}
 use mathlib.Core.List.{List}
 use mathlib.Core.Path.{_≡_, refl, sym, _∙_}
+use mathlib.Core.Logic.{_≢_}
 use Rattle.model.specs.Limits.{writers}
 use Rattle.model.specs.Answers.{outOfRange}
-use Rattle.model.specs.Counting.{eachBelow}
+use Rattle.common.specs.Counting.{eachBelow}
 use Rattle.model.specs.State.{State, ready, fresh}
 use Rattle.model.specs.Range.{writersInRange, indexInRange, instantsInRange, noneAbove, inRange}
-use Rattle.model.specs.Rules.{Outcome, act, Answered, updated, step}
+use Rattle.model.specs.Rules.{Outcome, act, Answered, updated, stepTested, step}
 use Rattle.model.specs.Isolation.{next, after}
 use Rattle.model.specs.declared.Writer.{Writer}
 use Rattle.model.specs.declared.Step.{Step}
-use Rattle.model.proofs.Cases.{cond-iff, facts, set-ind}
+use Rattle.common.proofs.Cases.{cond-iff, facts, set-ind}
 pub use Rattle.model.proofs.Ranged.{WriterRanged, Ranged, ranged, in-range}
 use Rattle.model.proofs.Executed.{executed-keeps}
 use Rattle.model.proofs.Actions.{Kept, act-sound}
@@ -38,16 +39,16 @@ updated-ranged st w o r k =
 
 module _ (st : State) (s : Step) (e : inRange st ≡ true) where
   pub step-in-range : inRange (step st s .state) ≡ true
-  unfolding step
+  unfolding step stepTested
   step-in-range =
       let r : Ranged st = ranged st e in
       simp (cond-iff (λ (a : Answered). inRange (a .state) ≡ true), facts)
       (λ _. e, λ _. (λ _. e, λ l. in-range _ (updated-ranged st (s .writer) (act _ _ _ _) r (act-sound _ _ _ _ .kept l (r .shared) (r .writer (s .writer) l)))))
 
-  pub answer-in-range : step st s .answer < outOfRange
-  unfolding step
+  pub answer-in-range : step st s .answer ≢ outOfRange
+  unfolding step stepTested
   answer-in-range =
-      simp (cond-iff (λ (a : Answered). a .answer < outOfRange), facts)
+      simp (cond-iff (λ (a : Answered). a .answer ≢ outOfRange), facts)
       (λ h. absurd (true≢false (sym e ∙ h)), λ _. (λ _. omega arith, λ _. act-sound _ _ _ (s .action) .answer))
 
 pub fresh-in-range : inRange fresh ≡ true
@@ -58,5 +59,5 @@ pub reached-in-range : (ss : List Step) → inRange (after ss .state) ≡ true
 unfolding next
 reached-in-range ss = executed-keeps (λ u. inRange (u .state) ≡ true) (λ u s e. step-in-range (u .state) s e) _ ss fresh-in-range
 
-pub never-out-of-range : (ss : List Step) (s : Step) → step (after ss .state) s .answer ≡ outOfRange → ⊥
-never-out-of-range ss s e = omega (arith, answer-in-range (after ss .state) s (reached-in-range ss), e)
+pub never-out-of-range : (ss : List Step) (s : Step) → step (after ss .state) s .answer ≢ outOfRange
+never-out-of-range ss s = answer-in-range (after ss .state) s (reached-in-range ss)

@@ -5,15 +5,14 @@
 use Prim.Native.Nat.{ℕ, _<_, _≤_}
 use native.Mathlib.Omega.{arith}
 use mathlib.Core.Bool.{true}
-use mathlib.Core.List.{List}
 use mathlib.Core.Path.{_≡_}
 use lib.ListN.{getD}
 use Rattle.model.specs.Limits.{writers, keys, groups, timestamps}
 use Rattle.model.specs.State.{Shared, State, completed, ready}
 use Rattle.model.specs.Range.{writerInRange, writersInRange, indexInRange, instantsInRange, noneAbove, inRange}
 use Rattle.model.specs.declared.Writer.{Writer}
-use Rattle.model.proofs.EachBelow.{below-iff}
-use Rattle.model.proofs.Cases.{facts}
+use Rattle.common.proofs.EachBelow.{below-iff}
+use Rattle.common.proofs.Cases.{facts}
 
 pub record WriterRanged (last : ℕ) (x : Writer) : Type 0 where
   pub key : x .key < keys
@@ -28,15 +27,12 @@ pub record InstantRanged (last i y : ℕ) : Type 0 where
   pub coded : y < completed groups
   pub above : last ≤ i → y ≡ 0
 
--- the last timestamp n, the lock l, the index and the timeline
-pub record MetadataRanged (n l : ℕ) (index timeline : List ℕ) : Type 0 where
-  pub last : n ≤ timestamps
-  pub lock : l ≤ writers
-  pub entry : (k : ℕ) → k < keys → getD index k 0 ≤ groups
-  pub instant : (i : ℕ) → i < timestamps → InstantRanged n i (getD timeline i 0)
-
-abbrev pub SharedRanged : Shared → Type 0
-SharedRanged s = MetadataRanged (s .last) (s .lock) (s .index) (s .timeline)
+-- what all writers share
+pub record SharedRanged (s : Shared) : Type 0 where
+  pub last : s .last ≤ timestamps
+  pub lock : s .lock ≤ writers
+  pub entry : (k : ℕ) → k < keys → getD (s .index) k 0 ≤ groups
+  pub instant : (i : ℕ) → i < timestamps → InstantRanged (s .last) i (getD (s .timeline) i 0)
 
 pub record Ranged (st : State) : Type 0 where
   pub shared : SharedRanged (st .shared)

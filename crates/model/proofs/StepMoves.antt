@@ -2,30 +2,31 @@
 use Prim.Native.Nat.{ℕ, suc, _+_, _-_, _≤_, _<_}
 use mathlib.Core.Path.{_≡_, refl, sym, ap, _∙_}
 use mathlib.Core.List.{List}
-use mathlib.Core.Bool.{true, true≢false}
-use mathlib.Core.Option.{some}
+use mathlib.Core.Bool.{true, false, true≢false, and-false}
+use mathlib.Core.Option.{Option, some}
 use native.Mathlib.Omega.{arith}
 use lib.ListN.{length, getD, set}
 use lib.Seq.{set-getD}
+use lib.Dec.{eqb}
 use borrow.Author.Tests.{ne-eqb, le-leb, lt-leb}
 use Rattle.model.specs.Limits.{writers, timestamps}
 use Rattle.model.specs.Answers.{taken, committed, aborted}
-use Rattle.model.specs.Counting.{upd}
+use Rattle.common.specs.Counting.{upd}
 use Rattle.model.specs.State.{Shared, requested, inflight, completed, cell, ready}
 use Rattle.model.specs.Range.{inRange}
-use Rattle.model.specs.Rules.{Outcome, begun, Answered, updated, step}
+use Rattle.model.specs.Rules.{begun, moved, Verdict, carried, act, Answered, updated, stepTested, step}
 use Rattle.model.specs.Snapshot.{instantOf}
 use Rattle.model.specs.History.{Pending, History, started, joined, dropped, recorded}
-use Rattle.model.specs.Isolation.{Execution, answeredBy, next}
+use Rattle.model.specs.Isolation.{Execution, isWrite, sliceOf, storedBy, answeredBy, next}
 use Rattle.model.specs.declared.Writer.{Writer}
 use Rattle.model.specs.declared.Action.{Action}
 use Rattle.model.specs.declared.Step.{Step}
-use Rattle.model.proofs.Cases.{cond-iff, facts}
-use Rattle.model.proofs.Functions.{upd-same, upd-id, getD-upd}
+use Rattle.common.proofs.Cases.{cond-iff, facts}
+use Rattle.common.proofs.Functions.{upd-same, upd-id, getD-upd}
 use Rattle.model.proofs.CompletedInstants.{groupCompleted, completedAt, completed-group, requested-group, inflight-group, instant-next, instant-set, completed-upd, newest-of, group-given}
 use Rattle.model.proofs.RangeKept.{WriterRanged, ranged, step-in-range}
-use Rattle.model.proofs.Outcomes.{Acted, isRefused, isEnded, hasStarted, hasFound, hasProposed, hasRead, hasWritten, hasEntered, hasChecked, hasCommitted, acts}
-use Rattle.model.proofs.Slices.{cell-sliced}
+use Rattle.model.proofs.Outcomes.{Ruling, isRefused, isEnded, hasStarted, hasFound, hasProposed, hasRead, hasWritten, hasEntered, hasChecked, hasCommitted, rules}
+use Rattle.model.proofs.Slices.{stored-own, cell-sliced}
 use Rattle.model.proofs.Lengths.{Sized, step-sized}
 use Rattle.model.proofs.Moves.{View, afterStart, afterPhase, afterEnd, afterCommit, looksUp, reads, writes, indexes, checks, Move, stays, starts, continues, ends, commits}
 use Rattle.model.proofs.Invariant.{Invariant}
@@ -41,6 +42,7 @@ viewOf u =
       cell = cell (u .state .shared .present) (u .state .shared .values);
       writer = λ w. getD (u .state .writers) w ready;
       history = u .history;
+      stored = u .stored;
     }
 
 -- a table and a history that satisfy the invariant
@@ -50,8 +52,9 @@ pub record Consistent (u : Execution) : Type 0 where
   pub invariant : Invariant (viewOf u)
 
 view-path : (v n : View) → v .last ≡ n .last → v .lock ≡ n .lock → v .entry ≡ n .entry → v .completed ≡ n .completed → v .cell ≡ n .cell
-    → v .writer ≡ n .writer → v .history ≡ n .history → v ≡ n
-view-path v n p q r s t x h = λ i. record { last = p i; lock = q i; entry = r i; completed = s i; cell = t i; writer = x i; history = h i }
+    → v .writer ≡ n .writer → v .history ≡ n .history → v .stored ≡ n .stored → v ≡ n
+view-path v n p q r s t x h d =
+    λ i. record { last = p i; lock = q i; entry = r i; completed = s i; cell = t i; writer = x i; history = h i; stored = d i }
 
 -- the history after an answer
 recorded-refused : (h : History) (s : Step) (n : ℕ) (g : ℕ → ℕ) → aborted < n → recorded h s n g ≡ h
@@ -69,6 +72,19 @@ recorded-taken h s g = refl
 recorded-committed : (h : History) (s : Step) (g : ℕ → ℕ) → recorded h s committed g ≡ joined h (s .writer) g (h .pending (s .writer))
 unfolding recorded
 recorded-committed h s g = refl
+
+stored-refused : (d : ℕ → ℕ → Option ℕ) (s : Step) (n : ℕ) (sh : Shared) (x : Writer) → taken < n → storedBy d s n sh x ≡ d
+unfolding storedBy
+stored-refused d s n sh x p = rw (ne-eqb n taken (omega arith))
+
+stored-unwritten : (d : ℕ → ℕ → Option ℕ) (s : Step) (n : ℕ) (sh : Shared) (x : Writer) → isWrite (s .action) ≡ false → storedBy d s n sh x ≡ d
+unfolding storedBy
+stored-unwritten d s n sh x e = rw (e, and-false (eqb n taken))
+
+stored-written : (d : ℕ → ℕ → Option ℕ) (s : Step) (sh : Shared) (x : Writer) → isWrite (s .action) ≡ true
+    → storedBy d s taken sh x ≡ upd d (x .ts) (sliceOf sh x)
+unfolding storedBy
+stored-written d s sh x e = rw e
 
 joined-group : (h : History) (w : ℕ) (p : Pending) (g i : ℕ → ℕ) → g (p .ts) ≡ i (p .ts) → joined h w g (some p) ≡ joined h w i (some p)
 unfolding joined
@@ -91,7 +107,7 @@ module _ (u : Execution) (h : Consistent u) (w : ℕ) (there : w < writers) wher
   issued = omega (arith, fits .ts, ranged (u .state) (h .ranged) .shared .last)
 
   listed : x .ts ≤ length (sh .timeline)
-  listed = omega (arith, issued, h .sized .timeline)
+  listed = omega (arith, issued, h .sized .shared .timeline)
 
   writer-path : (y : Writer) → (λ (i : ℕ). getD (set (u .state .writers) w y) i ready) ≡ upd (v .writer) w y
   writer-path y = getD-upd (u .state .writers) w y ready (omega (arith, h .sized .writers))
@@ -99,47 +115,51 @@ module _ (u : Execution) (h : Consistent u) (w : ℕ) (there : w < writers) wher
   entry-path : (i : List ℕ) {l : List ℕ} → i ≡ l → _≡_ {A = ℕ → ℕ} (λ k. getD i k 0) (λ k. getD l k 0)
   entry-path i e = ap {B = ℕ → ℕ} (λ (l : List ℕ) (k : ℕ). getD l k 0) e
 
-  acted-moves : {a : Action} {o : Outcome} → Acted x w sh a o → inRange (updated (u .state) w o .state) ≡ true
-      → Move v w (viewOf (answeredBy u (record { writer = w; action = a }) (updated (u .state) w o)))
+  ruling-moves : {a : Action} {r : Verdict} → Ruling x w sh a r → inRange (updated (u .state) w (carried x w sh r) .state) ≡ true
+      → Move v w (viewOf (answeredBy u (record { writer = w; action = a }) (updated (u .state) w (carried x w sh r))))
   unfolding started
-  acted-moves (isRefused a n p) fine =
+  ruling-moves (isRefused a n p) fine =
       stays
       (view-path _ v refl refl refl refl refl
-      (ap {B = ℕ → Writer} (λ (l : List Writer) (i : ℕ). getD l i ready) (set-getD (u .state .writers) w ready)) (recorded-refused _ _ n _ (omega arith)))
-  acted-moves (isEnded a n p) fine = ends (view-path _ (afterEnd v w) refl refl refl refl refl (writer-path ready) (recorded-ended _ _ n _ (p .0) (p .1)))
-  acted-moves (hasStarted op k g p l) fine =
+      (ap {B = ℕ → Writer} (λ (l : List Writer) (i : ℕ). getD l i ready) (set-getD (u .state .writers) w ready)) (recorded-refused _ _ n _ (omega arith))
+      (stored-refused _ _ n _ _ (omega arith)))
+  ruling-moves (isEnded a n p) fine = ends (view-path _ (afterEnd v w) refl refl refl refl refl (writer-path ready) (recorded-ended _ _ n _ (p .0) (p .1))
+      (stored-refused _ _ n _ _ (omega arith)))
+  ruling-moves (hasStarted op k g p l) fine =
       starts op p
       (view-path _ (afterStart v w op) refl refl refl
-      (completed-upd (sh .timeline) _ (suc (sh .last)) requested (instant-next (sh .timeline) (sh .last) requested (omega (arith, h .sized .timeline)))
+      (completed-upd (sh .timeline) _ (suc (sh .last)) requested (instant-next (sh .timeline) (sh .last) requested (omega (arith, h .sized .shared .timeline)))
       ∙ upd-id (v .completed) (suc (sh .last)) _ (h .invariant .above (suc (sh .last)) (omega arith) ∙ sym requested-group))
-      refl (writer-path (begun op (sh .last + 1))) (recorded-taken _ _ _))
-  acted-moves (hasFound p ne) fine =
+      refl (writer-path (begun op (sh .last + 1))) (recorded-taken _ _ _) (stored-unwritten _ _ _ _ _ refl))
+  ruling-moves (hasFound p ne) fine =
       continues (looksUp (v .entry (x .key) - 1) p (λ r. omega arith))
-      (view-path _ (afterPhase v w _ _ _ _) refl refl refl refl refl (writer-path _) (recorded-taken _ _ _))
-  acted-moves (hasProposed p put) fine =
+      (view-path _ (afterPhase v w _ _ _ _ _) refl refl refl refl refl (writer-path _) (recorded-taken _ _ _) (stored-unwritten _ _ _ _ _ refl))
+  ruling-moves (hasProposed p put) fine =
       continues (looksUp _ p (λ r. absurd (true≢false (sym put ∙ r))))
-      (view-path _ (afterPhase v w _ _ _ _) refl refl refl refl refl (writer-path _) (recorded-taken _ _ _))
-  acted-moves (hasRead p q) fine =
+      (view-path _ (afterPhase v w _ _ _ _ _) refl refl refl refl refl (writer-path _) (recorded-taken _ _ _) (stored-unwritten _ _ _ _ _ refl))
+  ruling-moves (hasRead p q) fine =
       continues (reads _ p (newest-of (sh .timeline) (x .group) (sh .last)) q)
-      (view-path _ (afterPhase v w _ _ _ _) refl refl refl
+      (view-path _ (afterPhase v w _ _ _ _ _) refl refl refl
       (completed-upd (sh .timeline) _ (x .ts) (inflight (x .group)) (instant-set (sh .timeline) (x .ts) (inflight (x .group)) (fits .issued (omega arith)) listed)
       ∙ upd-id (v .completed) (x .ts) _ (h .invariant .writer w .inProgress (omega arith) .uncompleted ∙ sym (inflight-group (x .group) (fits .group))))
-      refl (writer-path _) (recorded-taken _ _ _))
-  acted-moves (hasWritten p) fine =
+      refl (writer-path _) (recorded-taken _ _ _) (stored-unwritten _ _ _ _ _ refl))
+  ruling-moves (hasWritten p) fine =
+      let y = moved x 4 (x .group) (x .base) in
+      let slices =
+      cell-sliced (sh .present) (sh .values) x (fits .issued (omega arith)) (fits .group) (fits .key) (omega (arith, issued, h .sized .shared .present))
+      (omega (arith, issued, h .sized .shared .values)) in
       continues (writes p)
-      (view-path _ (afterPhase v w _ _ _ _) refl refl refl refl
-      (cell-sliced (sh .present) (sh .values) x (fits .issued (omega arith)) (fits .key) (omega (arith, issued, h .sized .present))
-      (omega (arith, issued, h .sized .values)))
-      (writer-path _) (recorded-taken _ _ _))
-  acted-moves (hasEntered i p e) fine =
+      (view-path _ (afterPhase v w _ _ _ _ _) refl refl refl refl slices (writer-path y) (recorded-taken _ _ _)
+      (stored-written _ _ _ _ refl ∙ rw (ap (λ (f : ℕ → Writer). f w) (writer-path y), upd-same (v .writer) w y, slices, stored-own (v .cell) x)))
+  ruling-moves (hasEntered i p e) fine =
       continues
-      (indexes (λ k. getD i k 0) (λ put. entry-path i (e .put put) ∙ getD-upd (sh .index) (x .key) _ 0 (omega (arith, fits .key, h .sized .index)))
+      (indexes (λ k. getD i k 0) (λ put. entry-path i (e .put put) ∙ getD-upd (sh .index) (x .key) _ 0 (omega (arith, fits .key, h .sized .shared .index)))
       (λ remove. entry-path i (e .remove remove)) p (e .free) (e .same))
-      (view-path _ (afterPhase v w _ _ _ _) refl refl refl refl refl (writer-path _) (recorded-taken _ _ _))
-  acted-moves (hasChecked p q) fine =
+      (view-path _ (afterPhase v w _ _ _ _ _) refl refl refl refl refl (writer-path _) (recorded-taken _ _ _) (stored-unwritten _ _ _ _ _ refl))
+  ruling-moves (hasChecked p q) fine =
       continues (checks _ p (newest-of (sh .timeline) (x .group) (sh .last)) q)
-      (view-path _ (afterPhase v w _ _ _ _) refl refl refl refl refl (writer-path _) (recorded-taken _ _ _))
-  acted-moves (hasCommitted i p is) fine =
+      (view-path _ (afterPhase v w _ _ _ _ _) refl refl refl refl refl (writer-path _) (recorded-taken _ _ _) (stored-unwritten _ _ _ _ _ refl))
+  ruling-moves (hasCommitted i p is) fine =
       let b = h .invariant .writer w .inProgress (omega arith) in
       let done = instant-set (sh .timeline) (x .ts) i (fits .issued (omega arith)) listed in
       let given = group-given _ (b .pending .ts) (x .group) fine (rw (b .ts, done) (upd-same (instantOf (sh .timeline)) (x .ts) i ∙ is)) in
@@ -147,10 +167,10 @@ module _ (u : Execution) (h : Consistent u) (w : ℕ) (there : w < writers) wher
       (view-path _ (afterCommit v w (b .pending)) refl refl refl
       (completed-upd (sh .timeline) _ (x .ts) i done ∙ ap (upd (v .completed) (x .ts)) (ap groupCompleted is ∙ completed-group (x .group)))
       refl (writer-path ready)
-      (recorded-committed _ _ _ ∙ ap (joined (u .history) w _) (b .is) ∙ joined-group (u .history) w (b .pending) _ (λ n. x .group) given))
+      (recorded-committed _ _ _ ∙ ap (joined (u .history) w _) (b .is) ∙ joined-group (u .history) w (b .pending) _ (λ n. x .group) given) (stored-unwritten _ _ _ _ _ refl))
 
 pub step-moves : (u : Execution) (s : Step) → Consistent u → Move (viewOf u) (s .writer) (viewOf (next u s))
-unfolding next step recorded
+unfolding next step stepTested act recorded storedBy
 step-moves u s h = moves (step-in-range (u .state) s (h .ranged))
   where
     moves : inRange (step (u .state) s .state) ≡ true → Move (viewOf u) (s .writer) (viewOf (answeredBy u s (step (u .state) s)))
@@ -159,7 +179,7 @@ step-moves u s h = moves (step-in-range (u .state) s (h .ranged))
           λ _ _. stays refl,
           λ _. (
             λ _ _. stays refl,
-            λ there. acted-moves u h (s .writer) there (acts (viewOf u .writer (s .writer)) (s .writer) (u .state .shared) (s .action)),
+            λ there. ruling-moves u h (s .writer) there (rules (viewOf u .writer (s .writer)) (s .writer) (u .state .shared) (s .action)),
           ),
         )
 

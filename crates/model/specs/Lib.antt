@@ -1,6 +1,5 @@
 pub mod Limits
 pub mod Answers
-pub mod Counting
 pub mod State
 pub mod Range
 pub mod Rules

@@ -7,7 +7,7 @@ use mathlib.Core.List.{List, [], _∷_}
 use lib.ListN.{getD}
 use lib.Dec.{eqb, ltb, leb}
 use Rattle.model.specs.Limits.{writers, keys, groups, timestamps}
-use Rattle.model.specs.Counting.{every, eachBelow}
+use Rattle.common.specs.Counting.{every, eachBelow}
 use Rattle.model.specs.State.{State, ready, completed}
 use Rattle.model.specs.declared.Writer.{Writer}
 

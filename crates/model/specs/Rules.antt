@@ -7,7 +7,7 @@ use lib.ListN.{getD, set}
 use lib.Dec.{eqb, ltb, leb}
 use Rattle.model.specs.Limits.{writers, keys, groups, timestamps}
 use Rattle.model.specs.Answers.{taken, committed, notIndexed, tooLate, otherGroup, groupChanged, aborted, noWriter, noKey, noGroup, wrongPhase, noTimestamp, locked, outOfRange}
-use Rattle.model.specs.State.{Shared, State, shared, requested, inflight, completed, newest, rowAt, rowIn, ready}
+use Rattle.model.specs.State.{Shared, State, withLast, withLock, withIndex, withTimeline, withPresent, withValues, requested, inflight, completed, newest, rowAt, rowIn, ready}
 use Rattle.model.specs.Range.{inRange}
 use Rattle.model.specs.declared.Writer.{Writer}
 use Rattle.model.specs.declared.Operation.{Operation}
@@ -16,44 +16,28 @@ use Rattle.model.specs.declared.Action.{Action}
 use Rattle.model.specs.declared.Action.the-variants.{Start, LookUp, Read, Write, Index, Check, Commit, Abort}
 use Rattle.model.specs.declared.Step.{Step}
 
--- the answer to an action, with the writer and the shared part after it
-pub record Outcome : Type 0 where
-  pub answer : ℕ
-  pub writer : Writer
-  pub shared : Shared
-
-abbrev pub outcome : ℕ → Writer → Shared → Outcome
-outcome n x s = record { answer = n; writer = x; shared = s }
-
--- the shared part with another lock, another index, or another instant at timestamp n
-abbrev pub withLock : Shared → ℕ → Shared
-withLock s l = shared (s .last) l (s .index) (s .timeline) (s .present) (s .values)
-
-abbrev pub withIndex : Shared → List ℕ → Shared
-withIndex s i = shared (s .last) (s .lock) i (s .timeline) (s .present) (s .values)
-
+-- another instant at timestamp n
 abbrev pub withInstant : Shared → ℕ → ℕ → Shared
-withInstant s n i = shared (s .last) (s .lock) (s .index) (set (s .timeline) (n - 1) i) (s .present) (s .values)
+withInstant s n i = withTimeline s (set (s .timeline) (n - 1) i)
 
 -- the next timestamp issued, its instant requested
 abbrev pub issued : Shared → Shared
-issued s = shared (s .last + 1) (s .lock) (s .index) (set (s .timeline) (s .last) requested) (s .present) (s .values)
+issued s = withTimeline (withLast s (s .last + 1)) (set (s .timeline) (s .last) requested)
 
--- the rows, once the first k of the slice of timestamp n have been taken over from the slice of b (none for b = 0)
-unfoldable pub copied : {A : Type 0} → A → List A → ℕ → ℕ → ℕ → List A
-copied absent rows b n zero = rows
-copied absent rows b n (suc k) = set (copied absent rows b n k) (rowAt n k) (rowIn absent rows b k)
+-- the rows, once the first k of file group g's slice of timestamp n have been taken over from its slice of b (none for b = 0)
+unfoldable pub copied : {A : Type 0} → A → List A → ℕ → ℕ → ℕ → ℕ → List A
+copied absent rows g b n zero = rows
+copied absent rows g b n (suc k) = set (copied absent rows g b n k) (rowAt g n k) (rowIn absent rows g b k)
 
--- the slice of timestamp n stored: the rows of the slice of b, with v at key k
-unfoldable pub sliced : {A : Type 0} → A → List A → ℕ → ℕ → ℕ → A → List A
-sliced absent rows b n k v = set (copied absent rows b n keys) (rowAt n k) v
+-- file group g's slice of timestamp n stored: the rows of its slice of b, with v at key k
+unfoldable pub sliced : {A : Type 0} → A → List A → ℕ → ℕ → ℕ → ℕ → A → List A
+sliced absent rows g b n k v = set (copied absent rows g b n keys) (rowAt g n k) v
 
 -- the slice of a writer's operation stored; "A base above 0 at which no slice is stored counts as no rows", since none of its rows is present
 abbrev pub withSlice : Shared → Writer → Shared
 withSlice s x =
-    shared (s .last) (s .lock) (s .index) (s .timeline)
-    (sliced false (s .present) (x .base) (x .ts) (x .key) (x .put))
-    (sliced 0 (s .values) (x .base) (x .ts) (x .key) (x .value))
+    withValues (withPresent s (sliced false (s .present) (x .group) (x .base) (x .ts) (x .key) (x .put)))
+    (sliced 0 (s .values) (x .group) (x .base) (x .ts) (x .key) (x .value))
 
 -- an operation's key, and the file group that a put proposes
 abbrev pub keyOf : Operation → ℕ
@@ -73,42 +57,40 @@ begun (Remove k) n = record { phase = 1; put = false; key = k; group = 0; ts = n
 abbrev pub moved : Writer → ℕ → ℕ → ℕ → Writer
 moved x p g b = record { phase = p; put = x .put; key = x .key; group = g; ts = x .ts; base = b; value = x .value }
 
--- the lock l after writer w has let go of it
-abbrev pub released : ℕ → ℕ → ℕ
-released l w = cond (eqb l (w + 1)) 0 l
-
--- "Whoever ends or commits frees the lock if holding it, goes to phase 0, and keeps no operation, timestamp or base (all 0).
--- Its instant stays as it is for good."
-abbrev pub ended : ℕ → ℕ → Shared → Outcome
-ended n w s = outcome n ready (withLock s (released (s .lock) w))
+-- what a rule says of a step: it is refused with a number; or the operation ends with a number; or the writer goes on, as the record given.
+-- The last two come with the shared part after them
+pub data Verdict : Type 0 where
+  refused : ℕ → Verdict
+  ended : ℕ → Shared → Verdict
+  goesOn : Writer → Shared → Verdict
 
 -- 1. "Start (phase 0): the next timestamp, last issued plus 1, is given to it; the instant is requested. Phase 1."
-unfoldable pub start : Writer → Shared → Operation → Outcome
+unfoldable pub start : Writer → Shared → Operation → Verdict
 start x s op =
-    cond (leb keys (keyOf op)) (outcome noKey x s)
-    (cond (leb groups (groupOf op)) (outcome noGroup x s)
-    (cond (not (eqb (x .phase) 0)) (outcome wrongPhase x s)
-    (cond (leb timestamps (s .last)) (outcome noTimestamp x s) (outcome taken (begun op (s .last + 1)) (issued s)))))
+    cond (leb keys (keyOf op)) (refused noKey)
+    (cond (leb groups (groupOf op)) (refused noGroup)
+    (cond (not (eqb (x .phase) 0)) (refused wrongPhase)
+    (cond (leb timestamps (s .last)) (refused noTimestamp) (goesOn (begun op (s .last + 1)) (issued s)))))
 
 -- 2. "Look up (1): an indexed key gives its group. An unindexed put takes its proposed group. An unindexed remove ends with 2. Else phase 2."
-unfoldable pub lookUp : Writer → ℕ → Shared → Outcome
-lookUp x w s =
-    cond (not (eqb (x .phase) 1)) (outcome wrongPhase x s)
-    (cond (not (eqb (getD (s .index) (x .key) 0) 0)) (outcome taken (moved x 2 (getD (s .index) (x .key) 0 - 1) (x .base)) s)
-    (cond (x .put) (outcome taken (moved x 2 (x .group) (x .base)) s) (ended notIndexed w s)))
+unfoldable pub lookUp : Writer → Shared → Verdict
+lookUp x s =
+    cond (not (eqb (x .phase) 1)) (refused wrongPhase)
+    (cond (not (eqb (getD (s .index) (x .key) 0) 0)) (goesOn (moved x 2 (getD (s .index) (x .key) 0 - 1) (x .base)) s)
+    (cond (x .put) (goesOn (moved x 2 (x .group) (x .base)) s) (ended notIndexed s)))
 
 -- 3. "Read (2): if a completed instant of this group has a timestamp above the writer's own, it ends with 3 and the instant stays requested.
 -- Else the base is the largest completed timestamp of the group, or 0; the instant becomes inflight. Phase 3."
-unfoldable pub readBase : Writer → ℕ → Shared → Outcome
-readBase x w s =
-    cond (not (eqb (x .phase) 2)) (outcome wrongPhase x s)
-    (cond (ltb (x .ts) (newest (s .timeline) (x .group) (s .last))) (ended tooLate w s)
-    (outcome taken (moved x 3 (x .group) (newest (s .timeline) (x .group) (s .last))) (withInstant s (x .ts) (inflight (x .group)))))
+unfoldable pub readBase : Writer → Shared → Verdict
+readBase x s =
+    cond (not (eqb (x .phase) 2)) (refused wrongPhase)
+    (cond (ltb (x .ts) (newest (s .timeline) (x .group) (s .last))) (ended tooLate s)
+    (goesOn (moved x 3 (x .group) (newest (s .timeline) (x .group) (s .last))) (withInstant s (x .ts) (inflight (x .group)))))
 
 -- 4. "Write (3): a slice for this group and timestamp is stored: the base slice's rows (none for base 0) with the one key put or removed.
 -- Readers don't see it yet. Phase 4."
-unfoldable pub writeSlice : Writer → Shared → Outcome
-writeSlice x s = cond (not (eqb (x .phase) 3)) (outcome wrongPhase x s) (outcome taken (moved x 4 (x .group) (x .base)) (withSlice s x))
+unfoldable pub writeSlice : Writer → Shared → Verdict
+writeSlice x s = cond (not (eqb (x .phase) 3)) (refused wrongPhase) (goesOn (moved x 4 (x .group) (x .base)) (withSlice s x))
 
 -- a lock or an index entry, which is 0 for none and m + 1 for m: it is set, and not to n
 abbrev pub namesOther : ℕ → ℕ → Bool
@@ -116,40 +98,66 @@ namesOther e n = not (eqb e 0) && not (eqb e (n + 1))
 
 -- 5. "Index (4): takes the table lock. If the key is indexed to another group, the writer ends with 4. Else a put enters key and group. Phase 5, lock held."
 -- "An index entry, once made, stays, after a remove and also after an operation that ended later.": no other rule changes the index.
-unfoldable pub enterIndex : Writer → ℕ → Shared → Outcome
+unfoldable pub enterIndex : Writer → ℕ → Shared → Verdict
 enterIndex x w s =
-    cond (not (eqb (x .phase) 4)) (outcome wrongPhase x s)
-    (cond (namesOther (s .lock) w) (outcome locked x s)
-    (cond (namesOther (getD (s .index) (x .key) 0) (x .group)) (ended otherGroup w s)
-    (outcome taken (moved x 5 (x .group) (x .base))
+    cond (not (eqb (x .phase) 4)) (refused wrongPhase)
+    (cond (namesOther (s .lock) w) (refused locked)
+    (cond (namesOther (getD (s .index) (x .key) 0) (x .group)) (ended otherGroup s)
+    (goesOn (moved x 5 (x .group) (x .base))
     (withLock (withIndex s (cond (x .put) (set (s .index) (x .key) (x .group + 1)) (s .index))) (w + 1)))))
 
 -- 6. "Check (5): ends with 5 exactly if some completed instant of the same group has a timestamp above the base. Else phase 6."
-unfoldable pub checkConflict : Writer → ℕ → Shared → Outcome
-checkConflict x w s =
-    cond (not (eqb (x .phase) 5)) (outcome wrongPhase x s)
-    (cond (ltb (x .base) (newest (s .timeline) (x .group) (s .last))) (ended groupChanged w s)
-    (outcome taken (moved x 6 (x .group) (x .base)) s))
+unfoldable pub checkConflict : Writer → Shared → Verdict
+checkConflict x s =
+    cond (not (eqb (x .phase) 5)) (refused wrongPhase)
+    (cond (ltb (x .base) (newest (s .timeline) (x .group) (s .last))) (ended groupChanged s) (goesOn (moved x 6 (x .group) (x .base)) s))
 
 -- 7. "Commit (6): the instant becomes completed, phase 0, answer 1."
-unfoldable pub commit : Writer → ℕ → Shared → Outcome
-commit x w s =
-    cond (not (eqb (x .phase) 6)) (outcome wrongPhase x s) (ended committed w (withInstant s (x .ts) (completed (x .group))))
+unfoldable pub commit : Writer → Shared → Verdict
+commit x s = cond (not (eqb (x .phase) 6)) (refused wrongPhase) (ended committed (withInstant s (x .ts) (completed (x .group))))
 
 -- 8. "Give up (1 to 6): answer 6."
-unfoldable pub abort : Writer → ℕ → Shared → Outcome
-abort x w s = cond (eqb (x .phase) 0) (outcome wrongPhase x s) (ended aborted w s)
+unfoldable pub abort : Writer → Shared → Verdict
+abort x s = cond (eqb (x .phase) 0) (refused wrongPhase) (ended aborted s)
+
+-- the rule of an action of writer w, whose own record is x
+unfoldable pub ruled : Writer → ℕ → Shared → Action → Verdict
+ruled x w s (Start op) = start x s op
+ruled x w s LookUp = lookUp x s
+ruled x w s Read = readBase x s
+ruled x w s Write = writeSlice x s
+ruled x w s Index = enterIndex x w s
+ruled x w s Check = checkConflict x s
+ruled x w s Commit = commit x s
+ruled x w s Abort = abort x s
+
+-- the answer to an action, with the writer and the shared part after it
+pub record Outcome : Type 0 where
+  pub answer : ℕ
+  pub writer : Writer
+  pub shared : Shared
+
+abbrev pub outcome : ℕ → Writer → Shared → Outcome
+outcome n x s = record { answer = n; writer = x; shared = s }
+
+-- the lock l after writer w has let go of it
+abbrev pub released : ℕ → ℕ → ℕ
+released l w = cond (eqb l (w + 1)) 0 l
+
+-- "Whoever ends or commits frees the lock if holding it, goes to phase 0, and keeps no operation, timestamp or base (all 0).
+-- Its instant stays as it is for good."
+abbrev pub closed : ℕ → ℕ → Shared → Outcome
+closed n w s = outcome n ready (withLock s (released (s .lock) w))
+
+-- a verdict carried out: refused, nothing changes
+abbrev pub carried : Writer → ℕ → Shared → Verdict → Outcome
+carried x w s (refused n) = outcome n x s
+carried x w s (ended n t) = closed n w t
+carried x w s (goesOn y t) = outcome taken y t
 
 -- the action of writer w, whose own record is x
 unfoldable pub act : Writer → ℕ → Shared → Action → Outcome
-act x w s (Start op) = start x s op
-act x w s LookUp = lookUp x w s
-act x w s Read = readBase x w s
-act x w s Write = writeSlice x s
-act x w s Index = enterIndex x w s
-act x w s Check = checkConflict x w s
-act x w s Commit = commit x w s
-act x w s Abort = abort x w s
+act x w s a = carried x w s (ruled x w s a)
 
 -- an answer, and the state after it
 pub record Answered : Type 0 where
@@ -163,9 +171,14 @@ answered n st = record { answer = n; state = st }
 abbrev pub updated : State → ℕ → Outcome → Answered
 updated st w o = answered (o .answer) (record { shared = o .shared; writers = set (st .writers) w (o .writer) })
 
--- one step: "Tested in the order 17, 10, 12, 13, 14, 15, 16; the first that applies is given": 17 and 10 here, the others in the rules
-unfoldable pub step : State → Step → Answered
-step st s =
-    cond (not (inRange st)) (answered outOfRange st)
+-- one step of a table whose range was tested: "Tested in the order 17, 10, 12, 13, 14, 15, 16; the first that applies is given": 17 and 10 here,
+-- the others in the rules
+unfoldable pub stepTested : Bool → State → Step → Answered
+stepTested fine st s =
+    cond (not fine) (answered outOfRange st)
     (cond (leb writers (s .writer)) (answered noWriter st)
     (updated st (s .writer) (act (getD (st .writers) (s .writer) ready) (s .writer) (st .shared) (s .action))))
+
+-- one step
+unfoldable pub step : State → Step → Answered
+step st s = stepTested (inRange st) st s

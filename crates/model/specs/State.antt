@@ -5,30 +5,49 @@ use mathlib.Core.List.{List}
 use mathlib.Core.Option.{Option, none, some}
 use lib.ListN.{getD, replicate}
 use lib.Dec.{eqb, ltb}
-use Rattle.model.specs.Limits.{writers, keys, groups, timestamps}
+use Rattle.model.specs.Limits.{writers, keys, groups, timestamps, rows}
 use Rattle.model.specs.declared.Writer.{Writer}
 use Rattle.model.specs.declared.Table.{Table}
 
--- what all writers share; a file slice is kept by its timestamp, and its file group is that of the instant
+-- what all writers share; a file slice is kept by its file group and timestamp
 pub record Shared : Type 0 where
   pub last : ℕ  -- the last timestamp issued
   pub lock : ℕ  -- 0: free; w + 1: held by writer w
   pub index : List ℕ  -- of each key: 0, or its file group + 1
   pub timeline : List ℕ  -- the instant of timestamp n, at n - 1
-  pub present : List Bool  -- has the slice of timestamp n a row of key k, at `rowAt n k`
+  pub present : List Bool  -- has the slice of group g and timestamp n a row of key k, at `rowAt g n k`
   pub values : List ℕ  -- and the row's value
 
 pub record State : Type 0 where
   pub shared : Shared
   pub writers : List Writer
 
-abbrev pub shared : ℕ → ℕ → List ℕ → List ℕ → List Bool → List ℕ → Shared
-shared last lock index timeline present values =
-    record { last = last; lock = lock; index = index; timeline = timeline; present = present; values = values }
+-- the shared part with one field changed, a setter for each field: every change of it goes through these
+abbrev pub withLast : Shared → ℕ → Shared
+withLast s v = record { last = v; lock = s .lock; index = s .index; timeline = s .timeline; present = s .present; values = s .values }
+
+abbrev pub withLock : Shared → ℕ → Shared
+withLock s v = record { last = s .last; lock = v; index = s .index; timeline = s .timeline; present = s .present; values = s .values }
+
+abbrev pub withIndex : Shared → List ℕ → Shared
+withIndex s v = record { last = s .last; lock = s .lock; index = v; timeline = s .timeline; present = s .present; values = s .values }
+
+abbrev pub withTimeline : Shared → List ℕ → Shared
+withTimeline s v = record { last = s .last; lock = s .lock; index = s .index; timeline = v; present = s .present; values = s .values }
+
+abbrev pub withPresent : Shared → List Bool → Shared
+withPresent s v = record { last = s .last; lock = s .lock; index = s .index; timeline = s .timeline; present = v; values = s .values }
+
+abbrev pub withValues : Shared → List ℕ → Shared
+withValues s v = record { last = s .last; lock = s .lock; index = s .index; timeline = s .timeline; present = s .present; values = v }
 
 -- the state of a table and its rows
 abbrev pub stateOf : Table → List Bool → List ℕ → State
-stateOf t present values = record { shared = shared (t .last) (t .lock) (t .index) (t .timeline) present values; writers = t .writers }
+stateOf t present values =
+    record {
+      shared = record { last = t .last; lock = t .lock; index = t .index; timeline = t .timeline; present = present; values = values };
+      writers = t .writers;
+    }
 
 -- an instant is one number: 0 none, 1 requested, then inflight in each file group, then completed in each
 abbrev pub requested : ℕ
@@ -45,17 +64,17 @@ unfoldable pub newest : List ℕ → ℕ → ℕ → ℕ
 newest timeline g zero = 0
 newest timeline g (suc n) = cond (eqb (getD timeline n 0) (completed g)) (suc n) (newest timeline g n)
 
--- the place of the row of key k in the slice of timestamp n
-abbrev pub rowAt : ℕ → ℕ → ℕ
-rowAt n k = (n - 1) * keys + k
+-- the place of the row of key k in the slice of file group g and timestamp n
+abbrev pub rowAt : ℕ → ℕ → ℕ → ℕ
+rowAt g n k = ((n - 1) * groups + g) * keys + k
 
--- what `rows` has for key k in the slice of timestamp n; timestamp 0 has no slice
-abbrev pub rowIn : {A : Type 0} → A → List A → ℕ → ℕ → A
-rowIn absent rows n k = cond (eqb n 0) absent (getD rows (rowAt n k) absent)
+-- what `rows` has for key k in the slice of file group g and timestamp n; timestamp 0 has no slice
+abbrev pub rowIn : {A : Type 0} → A → List A → ℕ → ℕ → ℕ → A
+rowIn absent rows g n k = cond (eqb n 0) absent (getD rows (rowAt g n k) absent)
 
--- the value that key k has in the slice of timestamp n, if it has a row there; a key past the last has none
-unfoldable pub cell : List Bool → List ℕ → ℕ → ℕ → Option ℕ
-cell present values n k = cond (ltb k keys && rowIn false present n k) (some (rowIn 0 values n k)) none
+-- the value that key k has in the slice of file group g and timestamp n, if it has a row there; a group or a key past the last has none
+unfoldable pub cell : List Bool → List ℕ → ℕ → ℕ → ℕ → Option ℕ
+cell present values g n k = cond (ltb g groups && (ltb k keys && rowIn false present g n k)) (some (rowIn 0 values g n k)) none
 
 -- "all writers ready": a ready writer keeps no operation, timestamp or base
 abbrev pub ready : Writer
@@ -66,6 +85,13 @@ unfoldable pub fresh : State
 fresh =
     record {
       shared =
-          shared 0 0 (replicate keys 0) (replicate timestamps 0) (replicate (timestamps * keys) false) (replicate (timestamps * keys) 0);
+          record {
+            last = 0;
+            lock = 0;
+            index = replicate keys 0;
+            timeline = replicate timestamps 0;
+            present = replicate rows false;
+            values = replicate rows 0;
+          };
       writers = replicate writers ready;
     }

@@ -3,13 +3,12 @@ pub mod answers;
 pub mod instants;
 pub mod limits;
 
+use common::Word;
 use limits::KEYS;
 use limits::TIMESTAMPS;
 use limits::WRITERS;
 
-// A number of a step, and what a key holds: any number of a log.
-pub type Word = u32;
-
+// What a key holds: any number of a log.
 pub type Value = Word;
 
 // A writer, with its operation in progress. A ready writer is at phase 0 and keeps zeros.

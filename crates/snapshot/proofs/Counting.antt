@@ -12,22 +12,23 @@ use mathlib.Core.List.{List, [], _∷_}
 use mathlib.Core.Option.{Option, none, some}
 use lib.ListN.{getD, length, replicate, getD-replicate}
 use Rattle.model.specs.Limits.{keys, groups}
-use Rattle.model.specs.Counting.{listBelow}
+use Rattle.common.specs.Counting.{listBelow}
 use Rattle.model.specs.State.{rowAt, cell}
 use Rattle.model.specs.Snapshot.{row, rowIf}
-use Rattle.model.proofs.ListBelow.{length-below}
+use Rattle.common.proofs.ListBelow.{length-below}
 use Rattle.model.proofs.Slices.{cell-zero, cell-row}
 use Rattle.snapshot.specs.declared.rows.Shown.{Shown}
 use Rattle.snapshot.specs.Newest.{Slices}
-use Rattle.snapshot.specs.Rows.{shownBy, rowsOfKey, allRows, HasRow, countWith, lowestWith, SliceCounted, Counted, sum, AllFit}
-use Rattle.snapshot.proofs.Lists.{no-length, length-more, sum-length}
+use Rattle.snapshot.specs.Rows.{shownBy, rowsOfKey, allRows, HasRow, countWith, lowestWith, SliceCounted, Counted, AllFit}
+use Rattle.common.specs.Counting.{sum}
+use Rattle.common.proofs.Lists.{no-length, length-more, sum-length}
 
 -- what file group g shows of a key, where n is the timestamp of its slice
-module _ {present : List Bool} {n k : ℕ} {b : Bool} (h : HasRow present n k b) (values : List ℕ) (g : ℕ) where
-  pub shown-row : b ≡ true → {place : ℕ} → place ≡ rowAt n k → rowIf k g (cell present values n k) ≡ row k (getD values place 0) g ∷ []
+module _ {present : List Bool} {g n k : ℕ} {b : Bool} (h : HasRow present g n k b) (values : List ℕ) where
+  pub shown-row : b ≡ true → {place : ℕ} → place ≡ rowAt g n k → rowIf k g (cell present values g n k) ≡ row k (getD values place 0) g ∷ []
   shown-row e p = rw (h .is values, e, p)
 
-  pub shown-none : b ≡ false → rowIf k g (cell present values n k) ≡ []
+  pub shown-none : b ≡ false → rowIf k g (cell present values g n k) ≡ []
   shown-none e = rw (h .is values, e)
 
 row-count : (k g v : ℕ) (b : Bool) → length (rowIf k g (cond b (some v) none)) ≡ cond b 1 0
@@ -54,7 +55,7 @@ module _ (slices : List ℕ) (present : List Bool) where
         omega (
           arith,
           h .count [] k l,
-          length-below 1 g (shownBy slices present [] k) (λ i. row-most k i (cell present [] (getD slices i 0) k)),
+          length-below 1 g (shownBy slices present [] k) (λ i. row-most k i (cell present [] i (getD slices i 0) k)),
         )
 
     -- group g counted: `shows k` tells whether it shows key k
@@ -77,13 +78,13 @@ module _ (slices : List ℕ) (present : List Bool) where
 
     pub counted-skip : getD slices g 0 ≡ 0 → Counted slices present (g + 1) old
     counted-skip e =
-        counted-with (λ k. false) (λ values k l. rw (e, cell-zero present values k)) (λ k l. omega arith) (λ k l. omega (arith, h .small k l))
+        counted-with (λ k. false) (λ values k l. rw (e, cell-zero present values g k)) (λ k l. omega arith) (λ k l. omega (arith, h .small k l))
 
-    pub counted-next : {from : ℕ} {new : Shown} → 0 < getD slices g 0 → from ≡ rowAt (getD slices g 0) 0 → SliceCounted present from g old new
+    pub counted-next : {from : ℕ} {new : Shown} → g < groups → 0 < getD slices g 0 → from ≡ rowAt g (getD slices g 0) 0 → SliceCounted present from g old new
         → Counted slices present (g + 1) new
-    counted-next {from} p e s =
+    counted-next {from} i p e s =
         counted-with (λ k. getD present (from + k) false)
-        (λ values k l. let q : from + k ≡ rowAt (getD slices g 0) k = omega arith in rw (cell-row present values (getD slices g 0) k p l, q, row-count))
+        (λ values k l. let q : from + k ≡ rowAt g (getD slices g 0) k = omega arith in rw (cell-row present values g (getD slices g 0) k p (i, l), q, row-count))
         (s .count)
         (s .low)
 

@@ -1,5 +1,4 @@
 pub mod Timeline
-pub mod Lists
 pub mod Counting
 pub mod Storing
 pub mod FirstRow

@@ -15,11 +15,12 @@ use Rattle.model.specs.State.{State}
 use Rattle.model.specs.Range.{inRange}
 use Rattle.model.specs.Snapshot.{rowsOf, rowsAt, Listed, unlisted, listed, scan, firstOf, pointRead}
 use Rattle.model.specs.declared.Found.the-variants.{Refused}
-use Rattle.model.proofs.ListBelow.{same-below}
+use Rattle.common.proofs.ListBelow.{same-below}
 use Rattle.model.proofs.RangeKept.{ranged}
 use Rattle.snapshot.specs.declared.rows.Shown.{Shown}
 use Rattle.snapshot.specs.Newest.{Coded, NewestSlices}
-use Rattle.snapshot.specs.Rows.{rowsOfKey, allRows, Counted, sum}
+use Rattle.snapshot.specs.Rows.{rowsOfKey, allRows, Counted}
+use Rattle.common.specs.Counting.{sum}
 use Rattle.snapshot.proofs.Counting.{counted-all}
 
 pub in-range-coded : (st : State) → inRange st ≡ true → Coded (st .shared .timeline)

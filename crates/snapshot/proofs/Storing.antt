@@ -13,13 +13,13 @@ use mathlib.Core.List.{List, [], _∷_, _++_}
 use lib.ListN.{getD, set, length, length-append}
 use lib.Seq.{sets, sets-eq, length-sets}
 use Rattle.model.specs.Limits.{keys, groups}
-use Rattle.model.specs.Counting.{listBelow}
+use Rattle.common.specs.Counting.{listBelow}
 use Rattle.model.specs.State.{rowAt}
 use Rattle.model.specs.Snapshot.{Row, row, numbers, listed}
-use Rattle.model.proofs.ListBelow.{none-below}
+use Rattle.common.proofs.ListBelow.{none-below}
 use Rattle.snapshot.specs.declared.rows.Shown.{Shown}
 use Rattle.snapshot.specs.Rows.{shownBy, rowsOfKey, HasRow, Stored, KeyFits, AllFit}
-use Rattle.snapshot.proofs.Lists.{list-more, length-more, list-rest, list-whole}
+use Rattle.common.proofs.Lists.{list-more, length-more, list-rest, list-whole}
 use Rattle.snapshot.proofs.Counting.{shown-row, shown-none}
 
 sets-append : (l : List ℕ) (i : ℕ) (xs ys : List ℕ) → sets l i (xs ++ ys) ≡ sets (sets l i xs) (i + length xs) ys
@@ -104,17 +104,17 @@ module _ {slices values old new : List ℕ} {present : List Bool} {k at left nex
         rest = omega (arith, s .rest, length-more g (shownBy slices present values k), ap length e);
       }
 
-  module _ (l : 0 < left) {b : Bool} (h : HasRow present (getD slices g 0) k b) where
+  module _ (l : 0 < left) {b : Bool} (h : HasRow present g (getD slices g 0) k b) where
     pub key-skip : b ≡ false → StoringKey slices present values k at old new left next (g + 1)
-    key-skip e = key-next l (shown-none h values g e) (omega arith) (stored-none refl)
+    key-skip e = key-next l (shown-none h values e) (omega arith) (stored-none refl)
 
-    module _ (e : b ≡ true) {place : ℕ} (p : place ≡ rowAt (getD slices g 0) k) where
+    module _ (e : b ≡ true) {place : ℕ} (p : place ≡ rowAt g (getD slices g 0) k) where
       pub key-room : next + 3 ≤ length new
-      key-room = omega (arith, storing-room (s .storing) (key-inside l), ap length (shown-row h values g e p))
+      key-room = omega (arith, storing-room (s .storing) (key-inside l), ap length (shown-row h values e p))
 
       pub key-row : {new′ : List ℕ} {next′ : ℕ} → Stored (row k (getD values place 0) g ∷ []) next new new′ next′
           → StoringKey slices present values k at old new′ (left - 1) next′ (g + 1)
-      key-row t = key-next l (shown-row h values g e p) (omega arith) t
+      key-row t = key-next l (shown-row h values e p) (omega arith) t
 
   pub key-end : left ≡ 0 → Stored (rowsOfKey slices present values k) at old new next
   key-end e = rw (list-whole g groups (shownBy slices present values k) (s .storing .low) (omega (arith, s .rest))) at (s .storing .stored)

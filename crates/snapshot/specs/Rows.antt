@@ -7,9 +7,9 @@ use mathlib.Core.Option.{none, some}
 use lib.ListN.{length, getD}
 use lib.Seq.{sets}
 use denote.Ref.{now}
-use Rattle.model.specs.Calls.{Lent}
+use Rattle.common.specs.Lent.{Lent}
 use Rattle.model.specs.Limits.{keys, groups}
-use Rattle.model.specs.Counting.{listBelow}
+use Rattle.common.specs.Counting.{listBelow}
 use Rattle.model.specs.State.{rowAt, cell}
 use Rattle.model.specs.Snapshot.{Row, rowIf, numbers}
 use Rattle.snapshot.specs.Newest.{Slices}
@@ -17,7 +17,7 @@ use Rattle.snapshot.specs.declared.rows.Shown.{Shown}
 
 -- what file group g shows of key k
 abbrev pub shownBy : List ℕ → List Bool → List ℕ → ℕ → ℕ → List Row
-shownBy slices present values k g = rowIf k g (cell present values (getD slices g 0) k)
+shownBy slices present values k g = rowIf k g (cell present values g (getD slices g 0) k)
 
 -- the rows of key k, lower group first
 abbrev pub rowsOfKey : List ℕ → List Bool → List ℕ → ℕ → List Row
@@ -27,10 +27,10 @@ rowsOfKey slices present values k = listBelow groups (shownBy slices present val
 abbrev pub allRows : List ℕ → List Bool → List ℕ → List Row
 allRows slices present values = listBelow keys (rowsOfKey slices present values)
 
--- r tells whether the slice of timestamp n has a row of key k
-pub record HasRow (present : List Bool) (n k : ℕ) (r : Bool) : Type 0 where
+-- r tells whether the slice of file group g and timestamp n has a row of key k
+pub record HasRow (present : List Bool) (g n k : ℕ) (r : Bool) : Type 0 where
   pub slice : r ≡ true → 0 < n
-  pub is : (values : List ℕ) → cell present values n k ≡ cond r (some (getD values (rowAt n k) 0)) none
+  pub is : (values : List ℕ) → cell present values g n k ≡ cond r (some (getD values (rowAt g n k) 0)) none
 
 -- a key's count, and the lowest file group that shows it, with one group more
 abbrev pub countWith : Bool → ℕ → ℕ
@@ -62,11 +62,6 @@ pub record Counted (slices : List ℕ) (present : List Bool) (n : ℕ) (shown : 
   pub count : (values : List ℕ) (k : ℕ) → k < keys → getD (shown .counts) k 0 ≡ length (listBelow n (shownBy slices present values k))
   pub small : (k : ℕ) → k < keys → getD (shown .lowest) k 0 ≤ groups
   pub below : (values : List ℕ) (k g : ℕ) → k < keys → g < getD (shown .lowest) k 0 → g < n → shownBy slices present values k g ≡ []
-
--- the sum of f 0, f 1, .. below n
-unfoldable pub sum : ℕ → (ℕ → ℕ) → ℕ
-sum zero f = 0
-sum (suc n) f = sum n f + f n
 
 -- rows are stored from a place on, and `next` is the place behind them
 pub record Stored (rows : List Row) (at : ℕ) (old new : List ℕ) (next : ℕ) : Type 0 where

@@ -9,12 +9,13 @@ ghost use Prim.Native.Nat.{ℕ};
 ghost use Rattle.model.specs.State.{stateOf};
 ghost use Rattle.model.specs.Snapshot.{scan, pointRead, instantOf, instantState, instantAt};
 ghost use Rattle.model.specs.Calls.{stateBefore, scanned};
+use common::Word;
+use metadata::in_range;
 use model::Found;
 use model::InstantState;
 use model::Scanned;
 use model::Table;
 use model::Value;
-use model::Word;
 use model::answers::NO_KEY;
 use model::answers::NO_ROOM;
 use model::answers::OUT_OF_RANGE;
@@ -26,7 +27,6 @@ use model::instants::REQUESTED;
 use model::limits::KEYS;
 use model::limits::ROWS;
 use model::limits::TIMESTAMPS;
-use table::in_range;
 
 // The rows at a timestamp, three numbers each, into a lent buffer.
 pub fn scan(

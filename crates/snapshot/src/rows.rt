@@ -4,14 +4,15 @@ ghost use mathlib.Core.Bool.{false, cond};
 ghost use mathlib.Core.List.{[], _∷_};
 ghost use Prim.Native.Nat.{ℕ, _≤_, _<_, _+_, _*_, min};
 ghost use lib.ListN.{getD, length};
-ghost use Rattle.model.specs.Limits.{keys, groups, timestamps};
+ghost use Rattle.model.specs.Limits.{keys, groups, timestamps, rows};
 ghost use Rattle.model.specs.State.{rowAt};
 ghost use Rattle.model.specs.Snapshot.{row, listed, firstOf};
 ghost use Rattle.snapshot.specs.Newest.{Slices};
-ghost use Rattle.snapshot.specs.Rows.{rowsOfKey, allRows, HasRow, shownBefore, shownAfter, Sized, SliceCounted, Counted, sum, Stored, KeyFits, AllFit};
+ghost use Rattle.snapshot.specs.Rows.{rowsOfKey, allRows, HasRow, shownBefore, shownAfter, Sized, SliceCounted, Counted, Stored, KeyFits, AllFit};
+ghost use Rattle.common.specs.Counting.{sum};
+use common::Word;
 use model::Found;
 use model::Value;
-use model::Word;
 use model::limits::GROUPS;
 use model::limits::KEYS;
 use model::limits::ROWS;
@@ -22,23 +23,23 @@ pub struct Shown {
     pub lowest: [u8; KEYS],
 }
 
-// Where the row of a key stands in the slice of a timestamp.
-fn row_at(ts: u8, key: usize) -> usize
-    requires { ⌜ ((0 < ts) × (ts ≤ timestamps)) × (key < keys) ⌝ }
-    ensures { λ r. ⌜ (r ≡ rowAt ts key) × (r < timestamps * keys) ⌝ }
+// Where the row of a key stands in the slice of a file group and a timestamp.
+fn row_at(group: usize, ts: u8, key: usize) -> usize
+    requires { ⌜ (group < groups) × ((0 < ts) × (ts ≤ timestamps)) × (key < keys) ⌝ }
+    ensures { λ r. ⌜ (r ≡ rowAt group ts key) × (r < rows) ⌝ }
 {
-    (ts as usize - 1) * KEYS + key
+    ((ts as usize - 1) * GROUPS + group) * KEYS + key
 }
 
-// Has the slice of a timestamp a row of the key? Timestamp 0 has no slice.
-fn has_row(present: &[bool; ROWS], ts: u8, key: usize) -> bool
-    requires { ⌜ (ts ≤ timestamps) × (key < keys) ⌝ }
-    ensures { λ r. ⌜ HasRow (now (present .entry)) ts key r ⌝ }
+// Has the slice of a file group and a timestamp a row of the key? Timestamp 0 has no slice.
+fn has_row(present: &[bool; ROWS], group: usize, ts: u8, key: usize) -> bool
+    requires { ⌜ (group < groups) × (ts ≤ timestamps) × (key < keys) ⌝ }
+    ensures { λ r. ⌜ HasRow (now (present .entry)) group ts key r ⌝ }
 {
     if ts == 0 {
         return false;
     }
-    present[row_at(ts, key)]
+    present[row_at(group, ts, key)]
 }
 
 // 1 for true, 0 for false.
@@ -70,7 +71,7 @@ fn count_slice(
     from: usize,
     group: u8,
 )
-    requires { ⌜ Sized (record { counts = now counts; lowest = now lowest }) × (from + keys ≤ timestamps * keys) × ((k : ℕ) → k < keys → getD (now counts) k 0 ≤ groups) ⌝ }
+    requires { ⌜ Sized (record { counts = now counts; lowest = now lowest }) × (from + keys ≤ rows) × ((k : ℕ) → k < keys → getD (now counts) k 0 ≤ groups) ⌝ }
     ensures { λ _. ⌜ SliceCounted (now (present .entry)) from group (shownBefore counts lowest) (shownAfter counts lowest) ⌝ }
 {
     let mut k: usize = 0;
@@ -95,7 +96,7 @@ pub fn count_slices(slices: [u8; GROUPS], present: &[bool; ROWS]) -> Shown
         let slice = slices[group];
         g += 1;
         if 0 < slice {
-            let from = row_at(slice, 0);
+            let from = row_at(group, slice, 0);
             count_slice(&mut counts, &mut lowest, present, from, group as u8);
         }
     }
@@ -148,8 +149,8 @@ fn store_key(
         let group = g;
         let slice = slices[group];
         g += 1;
-        if has_row(present, slice, key) {
-            let place = row_at(slice, key);
+        if has_row(present, group, slice, key) {
+            let place = row_at(group, slice, key);
             let value = values[place];
             next = store_row(&mut *buffer, next, key as Word, value, group as Word);
             left -= 1;
@@ -201,8 +202,8 @@ pub fn first_row(
     let mut group: usize = 0;
     while group < GROUPS {
         let slice = slices[group];
-        if has_row(present, slice, key) {
-            let place = row_at(slice, key);
+        if has_row(present, group, slice, key) {
+            let place = row_at(group, slice, key);
             return Found::Present {
                 value: values[place],
                 group: group as u8,

@@ -4,10 +4,10 @@
 mod print;
 
 ghost use Prim.Native.Nat.{_<_, _≤_};
+use common::Word;
 use leb128::Decoded;
 use libc::STDIN_FILENO;
 use model::Value;
-use model::Word;
 use model::limits::KEYS;
 use model::limits::ROWS;
 

@@ -1,6 +1,6 @@
 // Printing what an operation and the scan after it gave: each answer on its own line, then each row.
+use common::Word;
 use libc::STDOUT_FILENO;
-use model::Word;
 
 // A number, and the byte behind it.
 fn field(number: u64, end: &[u8]) {

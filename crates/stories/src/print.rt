@@ -1,11 +1,11 @@
 // Printing what a call gave.
+use common::Word;
 use libc::STDOUT_FILENO;
 use model::Found;
 use model::InstantState;
 use model::Scanned;
 use model::Table;
 use model::Value;
-use model::Word;
 use model::limits::ROWS;
 use steplog::Written;
 

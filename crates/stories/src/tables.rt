@@ -9,6 +9,7 @@ use model::Value;
 use model::Writer;
 use model::instants::COMPLETED;
 use model::instants::INFLIGHT;
+use model::limits::GROUPS;
 use model::limits::KEYS;
 use model::limits::ROWS;
 use model::limits::TIMESTAMPS;
@@ -63,10 +64,10 @@ fn by_hand(present: &mut [bool; ROWS], values: &mut [Value; ROWS]) -> Table {
         value: 20,
     };
     t.writers[0] = writer;
-    present[1] = true;
-    values[1] = 10;
-    present[KEYS + 1] = true;
-    values[KEYS + 1] = 99;
+    present[6 * KEYS + 1] = true;
+    values[6 * KEYS + 1] = 10;
+    present[(GROUPS + 5) * KEYS + 1] = true;
+    values[(GROUPS + 5) * KEYS + 1] = 99;
     t
 }
 

@@ -1,5 +1,3 @@
-pub mod Tests
-pub mod Newest
-pub mod Rows
-pub mod Largest
+pub mod Verdicts
 pub mod Bounds
+pub mod Parts

@@ -1,3 +1,2 @@
-pub mod Acted
-pub mod Largest
+pub mod Inner
 pub mod Parts

@@ -1,20 +1,17 @@
-// The eight actions of a writer, each on the writer's own record, the last timestamp, the lock, and the arrays that it touches.
+// The rules of the eight actions, each on the writer's own record and on what it touches of the shared part; and the one place where an operation ends.
 ghost use mathlib.Core.Path.{_≡_};
-ghost use mathlib.Core.Bool.{Bool, cond};
-ghost use mathlib.Core.List.{List};
-ghost use Prim.Native.Nat.{ℕ, _+_, _<_};
-ghost use Rattle.model.specs.Limits.{writers, keys, groups};
-ghost use Rattle.model.specs.State.{shared};
+ghost use mathlib.Core.Bool.{cond};
+ghost use Prim.Native.Nat.{_+_, _<_, _≤_};
+ghost use Rattle.model.specs.Limits.{writers, keys, groups, timestamps};
+ghost use Rattle.model.specs.State.{Shared, withLast, withLock, withIndex, withTimeline, withPresent, withValues};
 ghost use Rattle.model.specs.State as state;
 ghost use Rattle.model.specs.Rules as rules;
-ghost use Rattle.table.specs.Acted.{Bounds, outcomeOf, outcomeAfter, sharedBefore};
-use crate::slices::slice_present;
-use crate::slices::slice_values;
-use crate::timeline::newest_of;
+ghost use Rattle.table.specs.Inner.{Bounds, Does, Gives, Closes, lent, reads, both, all, outcomeOf};
+use common::Word;
+use metadata::newest_of;
 use model::Action;
 use model::Operation;
 use model::Value;
-use model::Word;
 use model::Writer;
 use model::answers::ABORTED;
 use model::answers::COMMITTED;
@@ -35,24 +32,20 @@ use model::limits::GROUPS;
 use model::limits::KEYS;
 use model::limits::ROWS;
 use model::limits::TIMESTAMPS;
+use slices::slice_present;
+use slices::slice_values;
 
-// What an action gave: its answer, and the writer, the last timestamp and the lock after it.
+// What a rule says of a step: it is refused, or the operation ends, or the writer goes on as the record given.
+pub enum Verdict {
+    Refused(u8),
+    Ended(u8),
+    GoesOn(Writer),
+}
+
+// What a step gave: its answer, and the writer's record after it.
 pub struct Acted {
     pub answer: u8,
     pub writer: Writer,
-    pub last: u8,
-    pub lock: u8,
-}
-
-fn outcome(answer: u8, writer: Writer, last: u8, lock: u8) -> Acted
-    ensures { λ r. ⌜ r ≡ record { answer = answer; writer = writer; last = last; lock = lock } ⌝ }
-{
-    Acted {
-        answer,
-        writer,
-        last,
-        lock,
-    }
 }
 
 // A writer with no operation.
@@ -83,17 +76,6 @@ fn moved(x: Writer, phase: u8, group: u8, base: u8) -> Writer
         base,
         value: x.value,
     }
-}
-
-// An operation ends: its writer is ready, and the lock free if the writer held it.
-fn end(answer: u8, w: u8, last: u8, lock: u8) -> Acted
-    requires { ⌜ w < writers ⌝ }
-    ensures { λ r. ⌜ ((i t : List ℕ) (p : List Bool) (v : List ℕ) → outcomeOf r i t p v ≡ rules.ended answer w (shared last lock i t p v)) ⌝ }
-{
-    if lock == w + 1 {
-        return outcome(answer, ready(), last, 0);
-    }
-    outcome(answer, ready(), last, lock)
 }
 
 fn key_of(op: Operation) -> Word
@@ -149,85 +131,82 @@ fn begin(op: Operation, ts: u8) -> Writer
 }
 
 // Start: the next timestamp is issued, its instant requested.
-fn start(x: Writer, last: u8, lock: u8, op: Operation, timeline: &mut [u8; TIMESTAMPS]) -> Acted
-    ensures { λ r. ⌜ ((i : List ℕ) (p : List Bool) (v : List ℕ) → outcomeOf r i (now (timeline .exit)) p v ≡ rules.start x (shared last lock i (now (timeline .entry)) p v) op) ⌝ }
+fn start(x: Writer, w: u8, op: Operation, last: &mut u8, timeline: &mut [u8; TIMESTAMPS]) -> Verdict
+    ensures { λ r. ⌜ Gives x w r (both (lent withLast last) (lent withTimeline timeline)) (λ s. rules.start x s op) ⌝ }
 {
     let key = key_of(op);
     let group = group_of(op);
     if key >= KEYS as Word {
-        return outcome(NO_KEY, x, last, lock);
+        return Verdict::Refused(NO_KEY);
     }
     if group >= GROUPS as Word {
-        return outcome(NO_GROUP, x, last, lock);
+        return Verdict::Refused(NO_GROUP);
     }
     if x.phase != 0 {
-        return outcome(WRONG_PHASE, x, last, lock);
+        return Verdict::Refused(WRONG_PHASE);
     }
-    if last >= TIMESTAMPS as u8 {
-        return outcome(NO_TIMESTAMP, x, last, lock);
+    let issued = *last;
+    if issued >= TIMESTAMPS as u8 {
+        return Verdict::Refused(NO_TIMESTAMP);
     }
-    let slot = last as usize;
+    let slot = issued as usize;
     timeline[slot] = REQUESTED;
-    let ts = last + 1;
-    outcome(TAKEN, begin(op, ts), ts, lock)
+    let ts = issued + 1;
+    *last = ts;
+    Verdict::GoesOn(begin(op, ts))
 }
 
 // Look up: the file group that the index has for the key, or the one that a put proposes.
-fn look_up(x: Writer, w: u8, last: u8, lock: u8, index: &[u8; KEYS]) -> Acted
-    requires { ⌜ (w < writers) × Bounds last x ⌝ }
-    ensures { λ r. ⌜ ((t : List ℕ) (p : List Bool) (v : List ℕ) → outcomeOf r (now (index .entry)) t p v ≡ rules.lookUp x w (shared last lock (now (index .entry)) t p v)) ⌝ }
+fn look_up(x: Writer, w: u8, index: &[u8; KEYS]) -> Verdict
+    requires { ⌜ Bounds x ⌝ }
+    ensures { λ r. ⌜ Gives x w r (reads withIndex (now (index .entry))) (rules.lookUp x) ⌝ }
 {
     if x.phase != 1 {
-        return outcome(WRONG_PHASE, x, last, lock);
+        return Verdict::Refused(WRONG_PHASE);
     }
     let key = x.key as usize;
     let entry = index[key];
     if entry != 0 {
-        return outcome(TAKEN, moved(x, 2, entry - 1, x.base), last, lock);
+        return Verdict::GoesOn(moved(x, 2, entry - 1, x.base));
     }
     if x.put {
-        return outcome(TAKEN, moved(x, 2, x.group, x.base), last, lock);
+        return Verdict::GoesOn(moved(x, 2, x.group, x.base));
     }
-    end(NOT_INDEXED, w, last, lock)
+    Verdict::Ended(NOT_INDEXED)
 }
 
 // Read: the base is the newest slice of the file group, unless that is later than the writer.
-fn read_base(x: Writer, w: u8, last: u8, lock: u8, timeline: &mut [u8; TIMESTAMPS]) -> Acted
-    requires { ⌜ (w < writers) × Bounds last x ⌝ }
-    ensures { λ r. ⌜ ((i : List ℕ) (p : List Bool) (v : List ℕ) → outcomeOf r i (now (timeline .exit)) p v ≡ rules.readBase x w (shared last lock i (now (timeline .entry)) p v)) ⌝ }
+fn read_base(x: Writer, w: u8, last: u8, timeline: &mut [u8; TIMESTAMPS]) -> Verdict
+    requires { ⌜ (last ≤ timestamps) × Bounds x ⌝ }
+    ensures { λ r. ⌜ Gives x w r (both (reads withLast last) (lent withTimeline timeline)) (rules.readBase x) ⌝ }
 {
     if x.phase != 2 {
-        return outcome(WRONG_PHASE, x, last, lock);
+        return Verdict::Refused(WRONG_PHASE);
     }
     let base = newest_of(&*timeline, x.group, last);
     if x.ts < base {
-        return end(TOO_LATE, w, last, lock);
+        return Verdict::Ended(TOO_LATE);
     }
     let slot = (x.ts - 1) as usize;
     timeline[slot] = INFLIGHT + x.group;
-    outcome(TAKEN, moved(x, 3, x.group, base), last, lock)
+    Verdict::GoesOn(moved(x, 3, x.group, base))
 }
 
 // Write: the slice is stored; no reader sees it yet.
-fn write_slice(
-    x: Writer,
-    last: u8,
-    lock: u8,
-    present: &mut [bool; ROWS],
-    values: &mut [Value; ROWS],
-) -> Acted
-    requires { ⌜ Bounds last x ⌝ }
-    ensures { λ r. ⌜ ((i t : List ℕ) → outcomeOf r i t (now (present .exit)) (now (values .exit)) ≡ rules.writeSlice x (shared last lock i t (now (present .entry)) (now (values .entry)))) ⌝ }
+fn write_slice(x: Writer, w: u8, present: &mut [bool; ROWS], values: &mut [Value; ROWS]) -> Verdict
+    requires { ⌜ Bounds x ⌝ }
+    ensures { λ r. ⌜ Gives x w r (both (lent withPresent present) (lent withValues values)) (rules.writeSlice x) ⌝ }
 {
     if x.phase != 3 {
-        return outcome(WRONG_PHASE, x, last, lock);
+        return Verdict::Refused(WRONG_PHASE);
     }
+    let group = x.group as usize;
     let base = x.base as usize;
     let ts = x.ts as usize;
     let key = x.key as usize;
-    slice_present(&mut *present, base, ts, key, x.put);
-    slice_values(&mut *values, base, ts, key, x.value);
-    outcome(TAKEN, moved(x, 4, x.group, x.base), last, lock)
+    slice_present(&mut *present, group, base, ts, key, x.put);
+    slice_values(&mut *values, group, base, ts, key, x.value);
+    Verdict::GoesOn(moved(x, 4, x.group, x.base))
 }
 
 // Does a lock or an index entry, 0 for none and n + 1 for n, name another than n?
@@ -250,86 +229,149 @@ fn entry_after(put: bool, group: u8, entry: u8) -> u8
 }
 
 // Index: the lock is taken and a put's key entered, unless the lock or the key is another's.
-fn enter_index(x: Writer, w: u8, last: u8, lock: u8, index: &mut [u8; KEYS]) -> Acted
-    requires { ⌜ (w < writers) × Bounds last x ⌝ }
-    ensures { λ r. ⌜ ((t : List ℕ) (p : List Bool) (v : List ℕ) → outcomeOf r (now (index .exit)) t p v ≡ rules.enterIndex x w (shared last lock (now (index .entry)) t p v)) ⌝ }
+fn enter_index(x: Writer, w: u8, lock: &mut u8, index: &mut [u8; KEYS]) -> Verdict
+    requires { ⌜ (w < writers) × Bounds x ⌝ }
+    ensures { λ r. ⌜ Gives x w r (both (lent withLock lock) (lent withIndex index)) (rules.enterIndex x w) ⌝ }
 {
     if x.phase != 4 {
-        return outcome(WRONG_PHASE, x, last, lock);
+        return Verdict::Refused(WRONG_PHASE);
     }
-    if names_other(lock, w) {
-        return outcome(LOCKED, x, last, lock);
+    let held = *lock;
+    if names_other(held, w) {
+        return Verdict::Refused(LOCKED);
     }
     let key = x.key as usize;
     let entry = index[key];
     if names_other(entry, x.group) {
-        return end(OTHER_GROUP, w, last, lock);
+        return Verdict::Ended(OTHER_GROUP);
     }
     index[key] = entry_after(x.put, x.group, entry);
-    outcome(TAKEN, moved(x, 5, x.group, x.base), last, w + 1)
+    *lock = w + 1;
+    Verdict::GoesOn(moved(x, 5, x.group, x.base))
 }
 
 // Check: nothing was committed in the file group since the base.
-fn check_conflict(x: Writer, w: u8, last: u8, lock: u8, timeline: &[u8; TIMESTAMPS]) -> Acted
-    requires { ⌜ (w < writers) × Bounds last x ⌝ }
-    ensures { λ r. ⌜ ((i : List ℕ) (p : List Bool) (v : List ℕ) → outcomeOf r i (now (timeline .entry)) p v ≡ rules.checkConflict x w (shared last lock i (now (timeline .entry)) p v)) ⌝ }
+fn check_conflict(x: Writer, w: u8, last: u8, timeline: &[u8; TIMESTAMPS]) -> Verdict
+    requires { ⌜ (last ≤ timestamps) × Bounds x ⌝ }
+    ensures { λ r. ⌜ Gives x w r (both (reads withLast last) (reads withTimeline (now (timeline .entry)))) (rules.checkConflict x) ⌝ }
 {
     if x.phase != 5 {
-        return outcome(WRONG_PHASE, x, last, lock);
+        return Verdict::Refused(WRONG_PHASE);
     }
     if x.base < newest_of(timeline, x.group, last) {
-        return end(GROUP_CHANGED, w, last, lock);
+        return Verdict::Ended(GROUP_CHANGED);
     }
-    outcome(TAKEN, moved(x, 6, x.group, x.base), last, lock)
+    Verdict::GoesOn(moved(x, 6, x.group, x.base))
 }
 
 // Commit: the instant is completed, and readers see its slice.
-fn commit(x: Writer, w: u8, last: u8, lock: u8, timeline: &mut [u8; TIMESTAMPS]) -> Acted
-    requires { ⌜ (w < writers) × Bounds last x ⌝ }
-    ensures { λ r. ⌜ ((i : List ℕ) (p : List Bool) (v : List ℕ) → outcomeOf r i (now (timeline .exit)) p v ≡ rules.commit x w (shared last lock i (now (timeline .entry)) p v)) ⌝ }
+fn commit(x: Writer, w: u8, timeline: &mut [u8; TIMESTAMPS]) -> Verdict
+    requires { ⌜ Bounds x ⌝ }
+    ensures { λ r. ⌜ Gives x w r (lent withTimeline timeline) (rules.commit x) ⌝ }
 {
     if x.phase != 6 {
-        return outcome(WRONG_PHASE, x, last, lock);
+        return Verdict::Refused(WRONG_PHASE);
     }
     let slot = (x.ts - 1) as usize;
     timeline[slot] = COMPLETED + x.group;
-    end(COMMITTED, w, last, lock)
+    Verdict::Ended(COMMITTED)
 }
 
 // Abort (document 01's give up): the operation ends at any phase.
-fn abort(x: Writer, w: u8, last: u8, lock: u8) -> Acted
-    requires { ⌜ w < writers ⌝ }
-    ensures { λ r. ⌜ ((i t : List ℕ) (p : List Bool) (v : List ℕ) → outcomeOf r i t p v ≡ rules.abort x w (shared last lock i t p v)) ⌝ }
+fn abort(x: Writer, w: u8) -> Verdict
+    ensures { λ r. ⌜ ((s : Shared) → Does x w r s s (rules.abort x s)) ⌝ }
 {
     if x.phase == 0 {
-        return outcome(WRONG_PHASE, x, last, lock);
+        return Verdict::Refused(WRONG_PHASE);
     }
-    end(ABORTED, w, last, lock)
+    Verdict::Ended(ABORTED)
+}
+
+// The rule of the action of writer w, whose own record is x.
+fn decide(
+    x: Writer,
+    w: u8,
+    action: Action,
+    last: &mut u8,
+    lock: &mut u8,
+    index: &mut [u8; KEYS],
+    timeline: &mut [u8; TIMESTAMPS],
+    present: &mut [bool; ROWS],
+    values: &mut [Value; ROWS],
+) -> Verdict
+    requires { ⌜ (w < writers) × ((now last ≤ timestamps) × Bounds x) ⌝ }
+    ensures { λ r. ⌜ Gives x w r (all last lock index timeline present values) (λ s. rules.ruled x w s action) ⌝ }
+{
+    match action {
+        Action::Start(op) => start(x, w, op, &mut *last, &mut *timeline),
+        Action::LookUp => look_up(x, w, &*index),
+        Action::Read => read_base(x, w, *last, &mut *timeline),
+        Action::Write => write_slice(x, w, &mut *present, &mut *values),
+        Action::Index => enter_index(x, w, &mut *lock, &mut *index),
+        Action::Check => check_conflict(x, w, *last, &*timeline),
+        Action::Commit => commit(x, w, &mut *timeline),
+        Action::Abort => abort(x, w),
+    }
+}
+
+// The lock after writer w has let go of it.
+fn released(lock: u8, w: u8) -> u8
+    requires { ⌜ w < writers ⌝ }
+    ensures { λ r. ⌜ r ≡ rules.released lock w ⌝ }
+{
+    if lock == w + 1 { 0 } else { lock }
+}
+
+// A verdict carried out. Every operation that ends or commits ends here: its writer is ready, and the lock free if the writer held it.
+fn close(v: Verdict, x: Writer, w: u8, lock: &mut u8) -> Acted
+    requires { ⌜ w < writers ⌝ }
+    ensures { λ r. ⌜ ((s : Shared) → Closes x w v (withLock s (now (lock .entry))) r (withLock s (now (lock .exit)))) ⌝ }
+{
+    match v {
+        Verdict::Refused(n) => Acted {
+            answer: n,
+            writer: x,
+        },
+        Verdict::Ended(n) => {
+            let held = *lock;
+            *lock = released(held, w);
+            Acted {
+                answer: n,
+                writer: ready(),
+            }
+        }
+        Verdict::GoesOn(y) => Acted {
+            answer: TAKEN,
+            writer: y,
+        },
+    }
 }
 
 // The action of writer w, whose own record is x.
 pub fn act(
     x: Writer,
     w: u8,
-    last: u8,
-    lock: u8,
     action: Action,
+    last: &mut u8,
+    lock: &mut u8,
     index: &mut [u8; KEYS],
     timeline: &mut [u8; TIMESTAMPS],
     present: &mut [bool; ROWS],
     values: &mut [Value; ROWS],
 ) -> Acted
-    requires { ⌜ (w < writers) × Bounds last x ⌝ }
-    ensures { λ r. ⌜ outcomeAfter r index timeline present values ≡ rules.act x w (sharedBefore last lock index timeline present values) action ⌝ }
+    requires { ⌜ (w < writers) × ((now last ≤ timestamps) × Bounds x) ⌝ }
+    ensures { λ r. ⌜ ((s : Shared) → outcomeOf r (all last lock index timeline present values .after s) ≡ rules.act x w (all last lock index timeline present values .before s) action) ⌝ }
 {
-    match action {
-        Action::Start(op) => start(x, last, lock, op, &mut *timeline),
-        Action::LookUp => look_up(x, w, last, lock, &*index),
-        Action::Read => read_base(x, w, last, lock, &mut *timeline),
-        Action::Write => write_slice(x, last, lock, &mut *present, &mut *values),
-        Action::Index => enter_index(x, w, last, lock, &mut *index),
-        Action::Check => check_conflict(x, w, last, lock, &*timeline),
-        Action::Commit => commit(x, w, last, lock, &mut *timeline),
-        Action::Abort => abort(x, w, last, lock),
-    }
+    let v = decide(
+        x,
+        w,
+        action,
+        &mut *last,
+        &mut *lock,
+        &mut *index,
+        &mut *timeline,
+        &mut *present,
+        &mut *values,
+    );
+    close(v, x, w, &mut *lock)
 }

@@ -7,10 +7,10 @@ use lib.ListN.{replicate}
 use Rattle.leb128.specs.Coding.{encodedIn, encoded, decodedIn, decodedAt}
 use Rattle.leb128.specs.declared.Decoded.{Decoded}
 use Rattle.leb128.specs.declared.Decoded.the-variants.{Number, Stop}
-use Rattle.model.specs.Counting.{eachBelow, listBelow}
+use Rattle.common.specs.Counting.{eachBelow, listBelow}
 use Rattle.model.specs.State.{fresh, newest, cell}
 use Rattle.model.specs.Range.{inRange, writersInRange, indexInRange, instantsInRange, noneAbove}
-use Rattle.model.specs.Rules.{copied, sliced, start, lookUp, readBase, writeSlice, enterIndex, checkConflict, commit, abort, act, step}
+use Rattle.model.specs.Rules.{copied, sliced, start, lookUp, readBase, writeSlice, enterIndex, checkConflict, commit, abort, ruled, act, stepTested, step}
 use Rattle.model.specs.Machine.{answersFrom, answersTo}
 use Rattle.model.specs.Snapshot.{Listed, rowsAt, numbers, scan}
 use Rattle.model.specs.Isolation.{executed, next, after}
@@ -113,5 +113,5 @@ traces =
     ∷ []
 
 pub traces-hold : map (λ (t : Trace). outcome (t .case)) traces ≡ map (λ (t : Trace). t .stated) traces
-unfolding traces outcome encoded encodedIn decodedAt decodedIn answersFrom executed next step act start lookUp readBase writeSlice enterIndex checkConflict commit abort inRange eachBelow writersInRange indexInRange instantsInRange noneAbove newest cell copied sliced fresh scan rowsAt numbers listBelow
+unfolding traces outcome encoded encodedIn decodedAt decodedIn answersFrom executed next step stepTested ruled act start lookUp readBase writeSlice enterIndex checkConflict commit abort inRange eachBelow writersInRange indexInRange instantsInRange noneAbove newest cell copied sliced fresh scan rowsAt numbers listBelow
 traces-hold = refl

@@ -1,5 +1,4 @@
 pub mod Decimal
-pub mod Parts
 pub mod Lines
 pub mod Sizes
 pub mod Printed

@@ -12,10 +12,10 @@ use native.Mathlib.Numerals.{add-one}
 use native.Mathlib.Omega.{arith}
 use lib.ListN.{length, take, getD}
 use lib.Seq.{take-suc, take-length, getD-append-add}
-use Rattle.model.specs.Counting.{listBelow}
+use Rattle.common.specs.Counting.{listBelow}
 use Rattle.model.specs.Snapshot.{Row, row, numbers}
-use Rattle.model.proofs.ListBelow.{same-below}
-use Rattle.steplog.proofs.Pieces.{each-next}
+use Rattle.common.proofs.ListBelow.{same-below}
+use Rattle.common.proofs.Pieces.{each-next}
 use Rattle.transcript.specs.Text.{newline, space, decimal, field, answerLines, stopWord, atWord, stopLine, rowLine, rowLines, rowOf, numberLines, runText}
 
 -- a piece of each of the first elements of a list, by their places

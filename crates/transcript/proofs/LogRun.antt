@@ -19,10 +19,10 @@ use Rattle.model.specs.Isolation.{after}
 use Rattle.model.specs.declared.Operation.{Operation}
 use Rattle.model.specs.declared.Operation.the-variants.{Put, Remove}
 use Rattle.model.specs.declared.Step.{Step}
-use Rattle.model.proofs.ListBelow.{length-below}
+use Rattle.common.proofs.ListBelow.{length-below}
 use Rattle.model.proofs.Listing.{rows-listed}
 use Rattle.model.proofs.Isolation.{reached, isolated}
-use Rattle.steplog.specs.Writing.{PastedTo}
+use Rattle.common.specs.Pasting.{PastedTo}
 use Rattle.run.specs.Runs.{ofLog, takenFrom, Run, runOf}
 use Rattle.run.proofs.Taken.{count-fits, answers-length}
 use Rattle.run.proofs.RunState.{run-state}

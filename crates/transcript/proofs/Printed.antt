@@ -13,7 +13,7 @@ use mathlib.Core.Path.{_≡_, ap}
 use lib.ListN.{length, drop, length-append}
 use borrow.Author.Tests.{le-ltb, lt-ltb}
 use Rattle.leb128.specs.Coding.{Stored}
-use Rattle.steplog.specs.Writing.{pasted, PastedTo}
+use Rattle.common.specs.Pasting.{pasted, PastedTo}
 use Rattle.transcript.specs.Text.{tooLong}
 use Rattle.transcript.specs.Transcript.{maxLog, maxText, transcript, printed}
 

@@ -14,7 +14,7 @@ use native.Mathlib.Nat.{pow-succ'}
 use native.Mathlib.Omega.{arith}
 use lib.ListN.{length, take, getD, length-append}
 use Rattle.model.specs.Snapshot.{Row}
-use Rattle.model.proofs.ListBelow.{length-below}
+use Rattle.common.proofs.ListBelow.{length-below}
 use Rattle.transcript.specs.Text.{newline, maxDigits, decimalIn, decimal, field, answerLines, stopLine, rowLine, rowOf, numberLines, runText, runRoom}
 use Rattle.transcript.proofs.Decimal.{short-in, long-in}
 use Rattle.transcript.proofs.Lines.{answers-below}

@@ -5,7 +5,7 @@ use mathlib.Core.Bool.{cond}
 use mathlib.Core.List.{List, [], _∷_, _++_, flatten, map}
 use lib.Dec.{ltb}
 use lib.ListN.{getD}
-use Rattle.model.specs.Counting.{listBelow}
+use Rattle.common.specs.Counting.{listBelow}
 use Rattle.model.specs.Snapshot.{Row, row}
 
 abbrev pub newline : ℕ

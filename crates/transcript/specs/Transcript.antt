@@ -12,7 +12,7 @@ use Rattle.model.specs.Snapshot.{rowsAt}
 use Rattle.model.specs.History.{listing}
 use Rattle.model.specs.Isolation.{after}
 use Rattle.steplog.specs.Records.{LogRead}
-use Rattle.steplog.specs.Writing.{pasted}
+use Rattle.common.specs.Pasting.{pasted}
 use Rattle.run.specs.Runs.{Run, ofLog, runOf}
 use Rattle.transcript.specs.Text.{answerLines, stopLine, rowLines, runRoom, tooLong}
 

@@ -3,8 +3,8 @@ mod text;
 
 ghost use mathlib.Core.Path.{_≡_};
 ghost use Rattle.transcript.specs.Transcript.{printed};
+use common::Word;
 use model::Value;
-use model::Word;
 use model::limits::KEYS;
 use model::limits::ROWS;
 

@@ -2,9 +2,9 @@
 ghost use Prim.Native.Nat.{_+_, _*_, _≤_};
 ghost use lib.ListN.{length, take};
 ghost use Rattle.model.specs.Snapshot.{row};
-ghost use Rattle.steplog.specs.Writing.{Pastes};
+ghost use Rattle.common.specs.Pasting.{Pastes};
 ghost use Rattle.transcript.specs.Text.{decimal, field, answerLines, stopLine, rowLine, numberLines, runText, runRoom};
-use model::Word;
+use common::Word;
 
 // The digit 0 in ASCII.
 const ZERO: u64 = 48;

@@ -1,7 +1,7 @@
 -- `state_of` meets its contract: each branch's test is the definition's.
 use borrow.Author.Needs.{needs}
 use Rattle.model.specs.Snapshot.{instantState}
-use Rattle.table.proofs.Tests.{tests}
+use Rattle.common.proofs.Tests.{tests}
 use Rattle.snapshot.proofs.state_of.Statement.{statement}
 use Rattle.snapshot.proofs.state_of.Tie as tie
 

@@ -59,6 +59,7 @@ loop-again c = (
   c .count-slice .ensures .sized,
   counted-next _ _
       (c .before .before .before .before .before .before .loop .inv .2)
+      (omega arith)
       (c .before .before .before .before .if1 .taken)
       (c .before .before .before .row-at .ensures .0)
       (c .count-slice .ensures),

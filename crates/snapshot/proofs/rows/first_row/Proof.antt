@@ -20,10 +20,11 @@ array-read-slice : tie.Need-array-read-slice Inv-loop μ-loop
 array-read-slice c = search needs
 
 has-row-requires : tie.Need-has-row-requires Inv-loop μ-loop
-has-row-requires c κs = (c .before .before .pre .0 (c .before .loop .group) (c .loop-test .taken), c .before .before .pre .1)
+has-row-requires c κs = (omega arith, c .before .before .pre .0 (c .before .loop .group) (c .loop-test .taken), c .before .before .pre .1)
 
 row-at-requires : tie.Need-row-at-requires Inv-loop μ-loop
 row-at-requires c κs = (
+  omega arith,
   (
     c .before .has-row .ensures .slice (c .if1 .taken),
     c .before .before .before .before .pre .0 (c .before .before .before .loop .group) (c .before .before .loop-test .taken),

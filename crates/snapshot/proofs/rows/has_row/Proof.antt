@@ -8,7 +8,7 @@ use Rattle.snapshot.proofs.rows.has_row.Statement.{statement}
 use Rattle.snapshot.proofs.rows.has_row.Tie as tie
 
 returns : tie.Need-returns
-returns c = record { slice = λ e. absurd (true≢false (sym e)); is = λ values. rw (c .if1 .taken) (cell-zero _ values _) }
+returns c = record { slice = λ e. absurd (true≢false (sym e)); is = λ values. rw (c .if1 .taken) (cell-zero _ values _ _) }
 
 row-at-requires : tie.Need-row-at-requires
 row-at-requires c κs = search needs
@@ -20,7 +20,7 @@ returns-2 : tie.Need-returns-2
 returns-2 c =
     record {
       slice = λ e. omega arith;
-      is = λ values. rw (c .before .row-at .ensures .0) (cell-row _ values (c .before .before .before .args .ts) (c .before .before .before .args .key) (omega arith) (omega arith));
+      is = λ values. rw (c .before .row-at .ensures .0) (cell-row _ values (c .before .before .before .args .group) (c .before .before .before .args .ts) (c .before .before .before .args .key) (omega arith) (omega arith, omega arith));
     }
 
 pub has-row-spec : {M : Type 1} → statement M

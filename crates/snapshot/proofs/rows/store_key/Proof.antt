@@ -25,12 +25,14 @@ add-g c = search needs
 
 has-row-requires : tie.Need-has-row-requires Inv-loop μ-loop
 has-row-requires c κs = (
+  key-inside (c .before .loop .inv) (c .loop-test .taken),
   c .before .before .before .pre .slice (c .before .loop .g) (key-inside (c .before .loop .inv) (c .loop-test .taken)),
   c .before .before .before .pre .key,
 )
 
 row-at-requires : tie.Need-row-at-requires Inv-loop μ-loop
 row-at-requires c κs = (
+  key-inside (c .before .before .before .loop .inv) (c .before .before .loop-test .taken),
   (
     c .before .has-row .ensures .slice (c .if1 .taken),
     c .before .before .before .before .before .pre .slice (c .before .before .before .loop .g) (key-inside (c .before .before .before .loop .inv) (c .before .before .loop-test .taken)),

@@ -13,10 +13,10 @@ use Rattle.model.proofs.Step as S
 use Rattle.steplog.specs.declared.writing.Written.{Written}
 use Rattle.steplog.specs.Writing.{logWritten, LogWritten}
 use Rattle.steplog.proofs.PlainTypes.{step-laws, written-laws}
-use Rattle.steplog.proofs.Walks.{URA, named, w64, Val, vint, vptr, SProp, ent, emp, via, fst∗, id⊢, Lft, Share, ftrue, flft, Memory, Routine, Heap, Env, WpFn, Tables, Atoms, Fun, givenOf, tablesOf, Given, Item, ‵, raw, _⊛_, ⋆, runs, atRet, Sq, _$_, _∵_, !, qed, by, move, keep, drop, use1, split, join, fsplit, fjoin, feqL, suffices, frame, done, agg, whole, sub, look-in, look, init, stop, hop, fld, from, lit, addr, of-opd, and-then, no-more, returns, params1, pass1, pass0, lft-new, lft-end, owns, Is, u8, usize, RefT, at-last, plain, sliceVal, MutSlice, Room, slice-vals, uint-vals, uint-tells, mut-slice-tells, owned, nothing, onEntry, Triple, cited, says, Stays, stay-none, stay-slice, walkOf, goes-none, goes-slice, ends-at, yes}
-use Rattle.steplog.proofs.Walks.{Plain, of-word, word, Blocks, locals, spots, enters, frees-all, get, get-field, sets, lands-in, tablesAt, met-by, of-array}
-use Rattle.steplog.proofs.Calling.{Callee, calls-on, calls-plain, owned-all, told, token-in}
-use Rattle.steplog.proofs.Lending.{refTo, renamed, lends-again, comes-back, lends-array, array-back}
+use Rattle.walks.proofs.Walks.{URA, named, w64, Val, vint, vptr, SProp, ent, emp, via, fst∗, id⊢, Lft, Share, ftrue, flft, Memory, Routine, Heap, Env, WpFn, Tables, Atoms, Fun, givenOf, tablesOf, Given, Item, ‵, raw, _⊛_, ⋆, runs, atRet, Sq, _$_, _∵_, !, qed, by, move, keep, drop, use1, split, join, fsplit, fjoin, feqL, suffices, frame, done, agg, whole, sub, look-in, look, init, stop, hop, fld, from, lit, addr, of-opd, and-then, no-more, returns, params1, pass1, pass0, lft-new, lft-end, owns, Is, u8, usize, RefT, at-last, plain, sliceVal, MutSlice, Room, slice-vals, uint-vals, uint-tells, mut-slice-tells, owned, nothing, onEntry, Triple, cited, says, Stays, stay-none, stay-slice, walkOf, goes-none, goes-slice, ends-at, yes}
+use Rattle.walks.proofs.Walks.{Plain, of-word, word, Blocks, locals, spots, enters, frees-all, get, get-field, sets, lands-in, tablesAt, met-by, of-array}
+use Rattle.walks.proofs.Calling.{Callee, calls-on, calls-plain, owned-all, told, token-in}
+use Rattle.walks.proofs.Lending.{refTo, renamed, lends-again, comes-back, lends-array, array-back}
 use Rattle.steplog.proofs.writing.Written as R
 use Rattle.steplog.proofs.write_log as write-log
 use Rattle.stories.specs.Steps.{putAndLookUp}

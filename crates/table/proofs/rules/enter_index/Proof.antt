@@ -1,4 +1,6 @@
 -- `enter_index` meets its contract: the tests of the rule have the values that the branches show.
+use borrow.Author.Tests.{eq-eqb, ne-eqb}
+use Rattle.model.specs.Rules.{enterIndex}
 use Prim.Native.Nat.{ℕ, _+_}
 use denote.Ref.{now}
 use mathlib.Core.Bool.{Bool, true, false, cond}
@@ -6,9 +8,7 @@ use mathlib.Core.List.{List}
 use mathlib.Core.Path.{_≡_, refl}
 use lib.ListN.{getD, set}
 use lib.Seq.{set-getD}
-use borrow.Author.Tests.{eq-eqb, ne-eqb}
 use borrow.Author.Needs.{needs}
-use Rattle.model.specs.Rules.{enterIndex}
 use Rattle.table.proofs.rules.enter_index.Statement.{statement}
 use Rattle.table.proofs.rules.enter_index.Tie as tie
 
@@ -17,29 +17,16 @@ entered : (put : Bool) (index : List ℕ) (key entry : ℕ) → set index key (c
 entered true index key entry = refl
 entered false index key entry = set-getD index key 0
 
-outcome-requires : tie.Need-outcome-requires
-outcome-requires c κs = search needs
-
 returns : tie.Need-returns
 unfolding enterIndex
-returns c = λ t p v. rw (c .outcome .ensures, ne-eqb _ _ (c .before .if1 .taken))
+returns c = λ s. record { same = rw (ne-eqb _ _ (c .if1 .taken)) }
 
 names-other-requires : tie.Need-names-other-requires
 names-other-requires c κs = search needs
 
-outcome-requires-2 : tie.Need-outcome-requires-2
-outcome-requires-2 c κs = search needs
-
 returns-2 : tie.Need-returns-2
 unfolding enterIndex
-returns-2 c =
-    λ t p v.
-    rw (
-      c .outcome2 .ensures,
-      eq-eqb _ _ (c .before .before .before .if1 .left),
-      ← c .before .before .names-other .ensures,
-      c .before .if2 .taken,
-    )
+returns-2 c = λ s. record { same = rw (eq-eqb _ _ (c .before .before .before .if1 .left), ← c .before .names-other .ensures, c .if2 .taken) }
 
 cast-key : tie.Need-cast-key
 cast-key c = search needs
@@ -50,20 +37,9 @@ element-copy-out-entry c = search needs
 names-other-requires-2 : tie.Need-names-other-requires-2
 names-other-requires-2 c κs = search needs
 
-end-requires : tie.Need-end-requires
-end-requires c κs = search needs
-
 returns-3 : tie.Need-returns-3
 unfolding enterIndex
-returns-3 c =
-    λ t p v.
-    rw (
-      eq-eqb _ _ (c .before .before .before .before .before .before .before .if1 .left),
-      ← c .before .before .before .before .before .before .names-other .ensures,
-      c .before .before .before .before .before .if2 .left,
-      ← c .before .before .names-other2 .ensures,
-      c .before .if3 .taken,
-    ) (c .end .ensures _ t p v)
+returns-3 c = λ s. record { same = rw (eq-eqb _ _ (c .before .before .before .before .before .before .before .if1 .left), ← c .before .before .before .before .before .names-other .ensures, c .before .before .before .before .if2 .left, ← c .before .names-other2 .ensures, c .if3 .taken) }
 
 entry-after-requires : tie.Need-entry-after-requires
 entry-after-requires c κs = search needs
@@ -71,49 +47,29 @@ entry-after-requires c κs = search needs
 element-write-index : tie.Need-element-write-index
 element-write-index c = search needs
 
+add-lock : tie.Need-add-lock
+add-lock c = search needs
+
 moved-requires : tie.Need-moved-requires
 moved-requires c κs = search needs
 
-add-outcome : tie.Need-add-outcome
-add-outcome c = search needs
-
-outcome-requires-3 : tie.Need-outcome-requires-3
-outcome-requires-3 c κs = search needs
-
 returns-4 : tie.Need-returns-4
 unfolding enterIndex
-returns-4 c =
-    let a = c .before .before .before .before .before .before .before .before .before .before .before .args in
-    λ t p v.
-    rw (
-      c .outcome3 .ensures,
-      c .before .moved .ensures,
-      c .before .before .entry-after .ensures,
-      eq-eqb _ _ (c .before .before .before .before .before .before .before .before .before .if1 .left),
-      ← c .before .before .before .before .before .before .before .before .names-other .ensures,
-      c .before .before .before .before .before .before .before .if2 .left,
-      ← c .before .before .before .before .names-other2 .ensures,
-      c .before .before .before .if3 .left,
-      entered (a .x .put) (now (a .index)) (a .x .key) (a .x .group + 1),
-    )
+returns-4 c = λ s. record { same = rw (c .moved .ensures, c .before .entry-after .ensures, eq-eqb _ _ (c .before .before .before .before .before .before .before .before .before .if1 .left), ← c .before .before .before .before .before .before .before .names-other .ensures, c .before .before .before .before .before .before .if2 .left, ← c .before .before .before .names-other2 .ensures, c .before .before .if3 .left, entered (c .before .before .before .before .before .before .before .before .before .before .before .args .x .put) (now (c .before .before .before .before .before .before .before .before .before .before .before .args .index)) (c .before .before .before .before .before .before .before .before .before .before .before .args .x .key) (c .before .before .before .before .before .before .before .before .before .before .before .args .x .group + 1)) }
 
 pub enter-index-spec : {M : Type 1} → statement M
 enter-index-spec =
     tie.close
     (tie.spec
-    outcome-requires
     returns
     names-other-requires
-    outcome-requires-2
     returns-2
     cast-key
     element-copy-out-entry
     names-other-requires-2
-    end-requires
     returns-3
     entry-after-requires
     element-write-index
+    add-lock
     moved-requires
-    add-outcome
-    outcome-requires-3
     returns-4)

@@ -1,16 +1,13 @@
 -- `look_up` meets its contract: the tests of the rule have the values that the branches show.
 use borrow.Author.Tests.{eq-eqb, ne-eqb}
-use borrow.Author.Needs.{needs}
 use Rattle.model.specs.Rules.{lookUp}
+use borrow.Author.Needs.{needs}
 use Rattle.table.proofs.rules.look_up.Statement.{statement}
 use Rattle.table.proofs.rules.look_up.Tie as tie
 
-outcome-requires : tie.Need-outcome-requires
-outcome-requires c κs = search needs
-
 returns : tie.Need-returns
 unfolding lookUp
-returns c = λ t p v. rw (c .outcome .ensures, ne-eqb _ _ (c .before .if1 .taken))
+returns c = λ s. record { same = rw (ne-eqb _ _ (c .if1 .taken)) }
 
 cast-key : tie.Need-cast-key
 cast-key c = search needs
@@ -24,65 +21,31 @@ sub-moved c = search needs
 moved-requires : tie.Need-moved-requires
 moved-requires c κs = search needs
 
-outcome-requires-2 : tie.Need-outcome-requires-2
-outcome-requires-2 c κs = search needs
-
 returns-2 : tie.Need-returns-2
 unfolding lookUp
-returns-2 c =
-    λ t p v.
-    rw (
-      c .outcome2 .ensures,
-      c .before .moved .ensures,
-      eq-eqb _ _ (c .before .before .before .before .before .if1 .left),
-      ne-eqb _ _ (c .before .before .if2 .taken),
-    )
+returns-2 c = λ s. record { same = rw (c .moved .ensures, eq-eqb _ _ (c .before .before .before .before .if1 .left), ne-eqb _ _ (c .before .if2 .taken)) }
 
 moved-requires-2 : tie.Need-moved-requires-2
 moved-requires-2 c κs = search needs
 
-outcome-requires-3 : tie.Need-outcome-requires-3
-outcome-requires-3 c κs = search needs
-
 returns-3 : tie.Need-returns-3
 unfolding lookUp
-returns-3 c =
-    λ t p v.
-    rw (
-      c .outcome3 .ensures,
-      c .before .moved2 .ensures,
-      eq-eqb _ _ (c .before .before .before .before .before .before .if1 .left),
-      eq-eqb _ _ (c .before .before .before .if2 .left),
-      c .before .before .if3 .taken,
-    )
-
-end-requires : tie.Need-end-requires
-end-requires c κs = search needs
+returns-3 c = λ s. record { same = rw (c .moved2 .ensures, eq-eqb _ _ (c .before .before .before .before .before .if1 .left), eq-eqb _ _ (c .before .before .if2 .left), c .before .if3 .taken) }
 
 returns-4 : tie.Need-returns-4
 unfolding lookUp
-returns-4 c =
-    λ t p v.
-    rw (
-      eq-eqb _ _ (c .before .before .before .before .before .if1 .left),
-      eq-eqb _ _ (c .before .before .if2 .left),
-      c .before .if3 .left,
-    ) (c .end .ensures _ t p v)
+returns-4 c = λ s. record { same = rw (eq-eqb _ _ (c .before .before .before .before .if1 .left), eq-eqb _ _ (c .before .if2 .left), c .if3 .left) }
 
 pub look-up-spec : {M : Type 1} → statement M
 look-up-spec =
     tie.close
     (tie.spec
-    outcome-requires
     returns
     cast-key
     element-copy-out-entry
     sub-moved
     moved-requires
-    outcome-requires-2
     returns-2
     moved-requires-2
-    outcome-requires-3
     returns-3
-    end-requires
     returns-4)

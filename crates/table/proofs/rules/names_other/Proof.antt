@@ -1,6 +1,6 @@
 -- `names_other` meets its contract, by its test.
 use borrow.Author.Needs.{needs}
-use Rattle.table.proofs.Tests.{tests}
+use Rattle.common.proofs.Tests.{tests}
 use Rattle.table.proofs.rules.names_other.Statement.{statement}
 use Rattle.table.proofs.rules.names_other.Tie as tie
 

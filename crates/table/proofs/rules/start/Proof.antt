@@ -1,7 +1,7 @@
 -- `start` meets its contract: the tests of the rule have the values that the branches show.
-use borrow.Author.Tests.{le-leb, lt-leb, eq-eqb, ne-eqb}
-use borrow.Author.Needs.{needs}
+use borrow.Author.Tests.{eq-eqb, ne-eqb, le-leb, lt-leb}
 use Rattle.model.specs.Rules.{start}
+use borrow.Author.Needs.{needs}
 use Rattle.table.proofs.rules.start.Statement.{statement}
 use Rattle.table.proofs.rules.start.Tie as tie
 
@@ -14,66 +14,27 @@ group-of-requires c κs = search needs
 cast-if1 : tie.Need-cast-if1
 cast-if1 c = search needs
 
-outcome-requires : tie.Need-outcome-requires
-outcome-requires c κs = search needs
-
 returns : tie.Need-returns
 unfolding start
-returns c = λ i p v. rw (c .outcome .ensures, ← c .before .before .before .key-of .ensures, le-leb _ _ (c .before .if1 .taken))
+returns c = λ s. record { same = rw (← c .before .before .key-of .ensures, le-leb _ _ (c .if1 .taken)) }
 
 cast-if2 : tie.Need-cast-if2
 cast-if2 c = search needs
 
-outcome-requires-2 : tie.Need-outcome-requires-2
-outcome-requires-2 c κs = search needs
-
 returns-2 : tie.Need-returns-2
 unfolding start
-returns-2 c =
-    λ i p v.
-    rw (
-      c .outcome2 .ensures,
-      ← c .before .before .before .before .key-of .ensures,
-      lt-leb _ _ (c .before .before .if1 .left),
-      ← c .before .before .before .group-of .ensures,
-      le-leb _ _ (c .before .if2 .taken),
-    )
-
-outcome-requires-3 : tie.Need-outcome-requires-3
-outcome-requires-3 c κs = search needs
+returns-2 c = λ s. record { same = rw (← c .before .before .before .key-of .ensures, lt-leb _ _ (c .before .if1 .left), ← c .before .before .group-of .ensures, le-leb _ _ (c .if2 .taken)) }
 
 returns-3 : tie.Need-returns-3
 unfolding start
-returns-3 c =
-    λ i p v.
-    rw (
-      c .outcome3 .ensures,
-      ← c .before .before .before .before .before .before .key-of .ensures,
-      lt-leb _ _ (c .before .before .before .before .if1 .left),
-      ← c .before .before .before .before .before .group-of .ensures,
-      lt-leb _ _ (c .before .before .before .if2 .left),
-      ne-eqb _ _ (c .before .if3 .taken),
-    )
+returns-3 c = λ s. record { same = rw (← c .before .before .before .before .before .key-of .ensures, lt-leb _ _ (c .before .before .before .if1 .left), ← c .before .before .before .before .group-of .ensures, lt-leb _ _ (c .before .before .if2 .left), ne-eqb _ _ (c .if3 .taken)) }
 
 cast-if4 : tie.Need-cast-if4
 cast-if4 c = search needs
 
-outcome-requires-4 : tie.Need-outcome-requires-4
-outcome-requires-4 c κs = search needs
-
 returns-4 : tie.Need-returns-4
 unfolding start
-returns-4 c =
-    λ i p v.
-    rw (
-      c .outcome4 .ensures,
-      ← c .before .before .before .before .before .before .before .key-of .ensures,
-      lt-leb _ _ (c .before .before .before .before .before .if1 .left),
-      ← c .before .before .before .before .before .before .group-of .ensures,
-      lt-leb _ _ (c .before .before .before .before .if2 .left),
-      eq-eqb _ _ (c .before .before .if3 .left),
-      le-leb _ _ (c .before .if4 .taken),
-    )
+returns-4 c = λ s. record { same = rw (← c .before .before .before .before .before .before .before .key-of .ensures, lt-leb _ _ (c .before .before .before .before .before .if1 .left), ← c .before .before .before .before .before .before .group-of .ensures, lt-leb _ _ (c .before .before .before .before .if2 .left), eq-eqb _ _ (c .before .before .if3 .left), le-leb _ _ (c .if4 .taken)) }
 
 element-write-timeline : tie.Need-element-write-timeline
 element-write-timeline c = search needs
@@ -84,23 +45,9 @@ add-ts c = search needs
 begin-requires : tie.Need-begin-requires
 begin-requires c κs = search needs
 
-outcome-requires-5 : tie.Need-outcome-requires-5
-outcome-requires-5 c κs = search needs
-
 returns-5 : tie.Need-returns-5
 unfolding start
-returns-5 c =
-    λ i p v.
-    rw (
-      c .outcome5 .ensures,
-      c .before .begin .ensures,
-      ← c .before .before .before .before .before .before .before .before .key-of .ensures,
-      lt-leb _ _ (c .before .before .before .before .before .before .if1 .left),
-      ← c .before .before .before .before .before .before .before .group-of .ensures,
-      lt-leb _ _ (c .before .before .before .before .before .if2 .left),
-      eq-eqb _ _ (c .before .before .before .if3 .left),
-      lt-leb _ _ (c .before .before .if4 .left),
-    )
+returns-5 c = λ s. record { same = rw (c .begin .ensures, ← c .before .before .before .before .before .before .before .before .key-of .ensures, lt-leb _ _ (c .before .before .before .before .before .before .if1 .left), ← c .before .before .before .before .before .before .before .group-of .ensures, lt-leb _ _ (c .before .before .before .before .before .if2 .left), eq-eqb _ _ (c .before .before .before .if3 .left), lt-leb _ _ (c .before .if4 .left)) }
 
 pub start-spec : {M : Type 1} → statement M
 start-spec =
@@ -109,18 +56,13 @@ start-spec =
     key-of-requires
     group-of-requires
     cast-if1
-    outcome-requires
     returns
     cast-if2
-    outcome-requires-2
     returns-2
-    outcome-requires-3
     returns-3
     cast-if4
-    outcome-requires-4
     returns-4
     element-write-timeline
     add-ts
     begin-requires
-    outcome-requires-5
     returns-5)

@@ -2,7 +2,7 @@
 use Prim.Native.Nat.{_-_}
 use native.Mathlib.Omega.{arith}
 use borrow.Author.Needs.{needs}
-use Rattle.transcript.proofs.Parts as parts
+use Rattle.common.proofs.PastedParts as parts
 use Rattle.transcript.proofs.Lines.{answerLine, answers-below}
 use Rattle.transcript.proofs.text.put_answers.Statement.{statement}
 use Rattle.transcript.proofs.text.put_answers.Tie as tie

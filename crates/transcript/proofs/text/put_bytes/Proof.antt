@@ -5,8 +5,8 @@ use native.Mathlib.Nat.{add-zero}
 use native.Mathlib.Omega.{arith}
 use lib.ListN.{length}
 use borrow.Author.Needs.{needs}
-use Rattle.steplog.proofs.Pieces.{byte-pasted}
-use Rattle.transcript.proofs.Parts as parts
+use Rattle.common.proofs.Pieces.{element-pasted}
+use Rattle.common.proofs.PastedParts as parts
 use Rattle.transcript.proofs.Lines.{byteOf, bytes-below}
 use Rattle.transcript.proofs.text.put_bytes.Statement.{statement}
 use Rattle.transcript.proofs.text.put_bytes.Tie as tie
@@ -36,7 +36,7 @@ loop-less : tie.Need-loop-less Inv-loop μ-loop
 loop-less c = search needs
 
 loop-again : tie.Need-loop-again Inv-loop μ-loop
-loop-again c = parts.goes-on (c .before .before .loop .inv) (c .before .loop-test .taken) (omega arith, byte-pasted _ _ _ (slice-write-text c) .1)
+loop-again c = parts.goes-on (c .before .before .loop .inv) (c .before .loop-test .taken) (omega arith, element-pasted _ _ _ (slice-write-text c) .1)
 
 add-result : tie.Need-add-result Inv-loop μ-loop
 add-result c = search needs

@@ -2,7 +2,7 @@
 use mathlib.Core.List.{[], _∷_}
 use borrow.Author.Needs.{needs}
 use Rattle.transcript.specs.Text.{newline, space, field}
-use Rattle.steplog.proofs.Pieces.{Fits, first-fits, rest-fits, joined, one-piece}
+use Rattle.common.proofs.Pieces.{Fits, first-fits, rest-fits, joined, one-piece}
 use Rattle.transcript.proofs.Lines.{row-pieces}
 use Rattle.transcript.proofs.text.put_row.Statement.{statement}
 use Rattle.transcript.proofs.text.put_row.Tie as tie

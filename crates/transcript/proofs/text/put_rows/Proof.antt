@@ -2,7 +2,7 @@
 use Prim.Native.Nat.{_-_}
 use borrow.Author.Needs.{needs}
 use Rattle.transcript.specs.Text.{rowLine, rowOf, numberLines}
-use Rattle.transcript.proofs.Parts as parts
+use Rattle.common.proofs.PastedParts as parts
 use Rattle.transcript.proofs.text.put_rows.Statement.{statement}
 use Rattle.transcript.proofs.text.put_rows.Tie as tie
 

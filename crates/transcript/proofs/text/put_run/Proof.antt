@@ -4,7 +4,7 @@ use native.Mathlib.Omega.{arith}
 use lib.ListN.{take}
 use borrow.Author.Needs.{needs}
 use Rattle.transcript.specs.Text.{answerLines, stopLine, numberLines}
-use Rattle.steplog.proofs.Pieces.{Fits, first-fits, rest-fits, joined, one-piece}
+use Rattle.common.proofs.Pieces.{Fits, first-fits, rest-fits, joined, one-piece}
 use Rattle.transcript.proofs.Lines.{run-pieces}
 use Rattle.transcript.proofs.Sizes.{run-most}
 use Rattle.transcript.proofs.text.put_run.Statement.{statement}

@@ -2,7 +2,7 @@
 use mathlib.Core.List.{[], _∷_}
 use borrow.Author.Needs.{needs}
 use Rattle.transcript.specs.Text.{newline, decimal, field, stopWord, atWord}
-use Rattle.steplog.proofs.Pieces.{Fits, first-fits, rest-fits, joined, one-piece}
+use Rattle.common.proofs.Pieces.{Fits, first-fits, rest-fits, joined, one-piece}
 use Rattle.transcript.proofs.Lines.{stop-pieces}
 use Rattle.transcript.proofs.text.put_stop.Statement.{statement}
 use Rattle.transcript.proofs.text.put_stop.Tie as tie

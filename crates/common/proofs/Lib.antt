@@ -1,0 +1,9 @@
+pub mod Tests
+pub mod Cases
+pub mod Functions
+pub mod EachBelow
+pub mod ListBelow
+pub mod Lists
+pub mod Pasting
+pub mod Pieces
+pub mod PastedParts

@@ -1,0 +1,4 @@
+pub mod Width
+pub mod Counting
+pub mod Lent
+pub mod Pasting

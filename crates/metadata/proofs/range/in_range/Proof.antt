@@ -1,0 +1,14 @@
+-- `in_range` meets its contract, by that of the test of a table in parts.
+use Rattle.model.specs.State.{stateOf}
+use borrow.Author.Needs.{needs}
+use Rattle.metadata.proofs.range.in_range.Statement.{statement}
+use Rattle.metadata.proofs.range.in_range.Tie as tie
+
+parts-in-range-requires : tie.Need-parts-in-range-requires
+parts-in-range-requires c κs = search needs
+
+returns : tie.Need-returns
+returns c = λ present values. c .parts-in-range .ensures (stateOf (c .before .before .before .before .before .before .args .t) present values .shared)
+
+pub in-range-spec : {M : Type 1} → statement M
+in-range-spec = tie.close (tie.spec parts-in-range-requires returns)

@@ -1,0 +1,83 @@
+-- `parts_in_range` meets its contract: a test that fails decides, and past the others the last one does. The length of an array is known.
+use mathlib.Core.Bool.{and-false, and-true}
+use mathlib.Core.Path.{_≡_, sym, _∙_}
+use denote.Ref.{now}
+use lib.ListN.{length}
+use borrow.Author.Tests.{not-true, not-false, le-leb, lt-leb, lt-ltb, le-ltb}
+use Rattle.model.specs.Limits.{keys, timestamps}
+use Rattle.model.specs.Range.{inRange}
+use Rattle.metadata.proofs.Largest.{index-largest, instants-largest, above-largest}
+use borrow.Author.Needs.{needs}
+use Rattle.metadata.proofs.range.parts_in_range.Statement.{statement}
+use Rattle.metadata.proofs.range.parts_in_range.Tie as tie
+
+cast-if1 : tie.Need-cast-if1
+cast-if1 c = search needs
+
+returns : tie.Need-returns
+unfolding inRange
+returns c = λ s. rw (lt-leb _ _ (c .if1 .taken))
+
+cast-if2 : tie.Need-cast-if2
+cast-if2 c = search needs
+
+returns-2 : tie.Need-returns-2
+unfolding inRange
+returns-2 c = λ s. simp (lt-leb _ _ (c .if2 .taken), and-false)
+
+writers-in-range-requires : tie.Need-writers-in-range-requires
+writers-in-range-requires c κs = search needs
+
+returns-3 : tie.Need-returns-3
+unfolding inRange
+returns-3 c = λ s. simp (sym (c .before .writers-in-range .ensures) ∙ not-true _ (c .if3 .taken), and-false)
+
+largest-requires : tie.Need-largest-requires
+largest-requires c κs = search needs
+
+cast-if4 : tie.Need-cast-if4
+cast-if4 c = search needs
+
+returns-4 : tie.Need-returns-4
+unfolding inRange
+returns-4 c = λ s. simp (index-largest _ (c .before .largest .ensures) (search needs) ∙ lt-leb _ _ (c .if4 .taken), and-false)
+
+largest-requires-2 : tie.Need-largest-requires-2
+largest-requires-2 c κs = search needs
+
+cast-if5 : tie.Need-cast-if5
+cast-if5 c = search needs
+
+add-if5 : tie.Need-add-if5
+add-if5 c = search needs
+
+returns-5 : tie.Need-returns-5
+unfolding inRange
+returns-5 c = λ s. simp (instants-largest _ (c .before .largest2 .ensures) (search needs) ∙ le-ltb _ _ (c .if5 .taken), and-false)
+
+largest-requires-3 : tie.Need-largest-requires-3
+largest-requires-3 c κs = search needs
+
+returns-6 : tie.Need-returns-6
+unfolding inRange
+returns-6 c = let i : length (now (c .before .before .before .before .before .before .before .before .before .before .before .before .args .index)) ≡ keys = search needs in let l : length (now (c .before .before .before .before .before .before .before .before .before .before .before .before .args .timeline)) ≡ timestamps = search needs in λ s. rw (le-leb _ _ (c .before .before .before .before .before .before .before .before .before .before .before .if1 .left), le-leb _ _ (c .before .before .before .before .before .before .before .before .before .before .if2 .left), sym (c .before .before .before .before .before .before .before .before .before .writers-in-range .ensures) ∙ not-false _ (c .before .before .before .before .before .before .before .before .if3 .left), index-largest _ (c .before .before .before .before .before .before .largest .ensures) i ∙ le-leb _ _ (c .before .before .before .before .before .if4 .left), instants-largest _ (c .before .before .before .largest2 .ensures) l ∙ lt-ltb _ _ (c .before .before .if5 .left), above-largest _ _ (c .largest3 .ensures) l, and-true)
+
+pub parts-in-range-spec : {M : Type 1} → statement M
+parts-in-range-spec =
+    tie.close
+    (tie.spec
+    cast-if1
+    returns
+    cast-if2
+    returns-2
+    writers-in-range-requires
+    returns-3
+    largest-requires
+    cast-if4
+    returns-4
+    largest-requires-2
+    cast-if5
+    add-if5
+    returns-5
+    largest-requires-3
+    returns-6)

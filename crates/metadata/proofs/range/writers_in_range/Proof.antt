@@ -1,0 +1,66 @@
+-- `writers_in_range` meets its contract. The loop's invariant: each writer passed is in range. The measure is the number of writers left.
+use Prim.Native.Nat.{ℕ, _-_, _<_, _≤_}
+use native.Mathlib.Omega.{arith}
+use mathlib.Core.Bool.{true}
+use mathlib.Core.Path.{_≡_, sym, _∙_}
+use lib.ListN.{getD}
+use borrow.Author.Tests.{not-true, not-false}
+use borrow.Author.Needs.{needs}
+use borrow.Author.Count.{below-none, below-more}
+use Rattle.model.specs.Limits.{writers}
+use Rattle.model.specs.State.{ready}
+use Rattle.model.specs.Range.{writerInRange, writersInRange}
+use Rattle.common.proofs.EachBelow.{below-all, below-stop}
+use Rattle.metadata.proofs.range.writers_in_range.Statement.{statement}
+use Rattle.metadata.proofs.range.writers_in_range.Tie as tie
+
+abbrev Inv-loop : tie.InvT-loop
+Inv-loop last xs w₀ w = (w ≤ writers) × ((k : ℕ) → k < w → writerInRange last (getD xs k ready) ≡ true)
+
+abbrev μ-loop : tie.MeasureT-loop
+μ-loop last xs w₀ w = writers - w
+
+loop-holds : tie.Need-loop-holds Inv-loop μ-loop
+loop-holds c = (search needs, below-none _)
+
+mul-writer-in-range : tie.Need-mul-writer-in-range Inv-loop μ-loop
+mul-writer-in-range c = search needs
+
+array-copy-out-writer-in-range : tie.Need-array-copy-out-writer-in-range Inv-loop μ-loop
+array-copy-out-writer-in-range c = search needs
+
+writer-in-range-requires : tie.Need-writer-in-range-requires Inv-loop μ-loop
+writer-in-range-requires c κs = search needs
+
+returns : tie.Need-returns Inv-loop μ-loop
+unfolding writersInRange
+returns c = sym (below-stop _ writers _ (omega arith) (sym (c .before .writer-in-range .ensures) ∙ not-true _ (c .if1 .taken)))
+
+add-w : tie.Need-add-w Inv-loop μ-loop
+add-w c = search needs
+
+loop-less : tie.Need-loop-less Inv-loop μ-loop
+loop-less c = search needs
+
+loop-again : tie.Need-loop-again Inv-loop μ-loop
+loop-again c = (omega arith, below-more _ _ (c .before .before .before .before .loop .inv .1) (sym (c .before .writer-in-range .ensures) ∙ not-false _ (c .if1 .left)))
+
+returns-2 : tie.Need-returns-2 Inv-loop μ-loop
+unfolding writersInRange
+returns-2 c = let z : c .before .loop .w ≡ writers = omega arith in sym (below-all _ writers (rw z at (c .before .loop .inv .1)))
+
+pub writers-in-range-spec : {M : Type 1} → statement M
+writers-in-range-spec =
+    tie.close
+    (tie.spec
+    Inv-loop
+    μ-loop
+    loop-holds
+    mul-writer-in-range
+    array-copy-out-writer-in-range
+    writer-in-range-requires
+    returns
+    add-w
+    loop-less
+    loop-again
+    returns-2)

@@ -1,0 +1,8 @@
+// The metadata of a table, read: the range test of answer 17, and searches of the timeline.
+mod range;
+mod timeline;
+
+pub use range::actor_in_range;
+pub use range::in_range;
+pub use range::parts_in_range;
+pub use timeline::newest_of;

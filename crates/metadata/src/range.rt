@@ -1,0 +1,123 @@
+// Answer 17: is every stored number of a table in its range?
+ghost use mathlib.Core.Path.{_≡_};
+ghost use mathlib.Core.Bool.{Bool};
+ghost use mathlib.Core.List.{List};
+ghost use Prim.Native.Nat.{ℕ, max};
+ghost use lib.ListN.{drop};
+ghost use Rattle.model.specs.State.{Shared, stateOf, withLast, withLock, withIndex, withTimeline};
+ghost use Rattle.model.specs.Range.{writerInRange, writersInRange, inRange};
+ghost use Rattle.metadata.specs.Actor.{actorInRange};
+ghost use Rattle.metadata.specs.Largest.{largest};
+use model::Table;
+use model::Writer;
+use model::instants::COMPLETED;
+use model::instants::NONE;
+use model::limits::GROUPS;
+use model::limits::KEYS;
+use model::limits::TIMESTAMPS;
+use model::limits::WRITERS;
+
+fn writer_in_range(x: Writer, last: u8) -> bool
+    ensures { λ r. ⌜ r ≡ writerInRange last x ⌝ }
+{
+    if x.key >= KEYS as u8 {
+        return false;
+    }
+    if x.group >= GROUPS as u8 {
+        return false;
+    }
+    if 6 < x.phase {
+        return false;
+    }
+    if last < x.ts {
+        return false;
+    }
+    if last < x.base {
+        return false;
+    }
+    if x.phase == 0 {
+        return true;
+    }
+    0 < x.ts
+}
+
+// The record of a writer, and the last timestamp.
+pub fn actor_in_range(last: u8, x: Writer) -> bool
+    ensures { λ r. ⌜ r ≡ actorInRange last x ⌝ }
+{
+    if last > TIMESTAMPS as u8 {
+        return false;
+    }
+    writer_in_range(x, last)
+}
+
+fn writers_in_range(xs: [Writer; WRITERS], last: u8) -> bool
+    ensures { λ r. ⌜ r ≡ writersInRange last xs ⌝ }
+{
+    let mut w: usize = 0;
+    while w < WRITERS {
+        if !writer_in_range(xs[w], last) {
+            return false;
+        }
+        w += 1;
+    }
+    true
+}
+
+// The larger of two numbers.
+fn larger(a: u8, b: u8) -> u8
+    ensures { λ r. ⌜ r ≡ max a b ⌝ }
+{
+    if a < b { b } else { a }
+}
+
+// The largest number from a place on. The loop has no exit, so that it runs on whole vectors.
+fn largest(numbers: &[u8], from: usize) -> u8
+    ensures { λ r. ⌜ r ≡ largest (drop from (now (numbers .entry))) ⌝ }
+{
+    let mut most: u8 = 0;
+    let mut i = from;
+    while i < numbers.len() {
+        most = larger(most, numbers[i]);
+        i += 1;
+    }
+    most
+}
+
+// Is every stored number of a table in its range? The table comes in its parts, so that no caller copies it whole for the test.
+pub fn parts_in_range<'a>(
+    last: u8,
+    lock: u8,
+    writers: [Writer; WRITERS],
+    index: &'a [u8; KEYS],
+    timeline: &'a [u8; TIMESTAMPS],
+) -> bool
+    ensures { λ r. ⌜ ((s : Shared) → r ≡ inRange (record { shared = withTimeline (withIndex (withLock (withLast s last) lock) (now (index .entry))) (now (timeline .entry)); writers = writers })) ⌝ }
+{
+    if last > TIMESTAMPS as u8 {
+        return false;
+    }
+    if lock > WRITERS as u8 {
+        return false;
+    }
+    if !writers_in_range(writers, last) {
+        return false;
+    }
+    if largest(index, 0) > GROUPS as u8 {
+        return false;
+    }
+    if largest(timeline, 0) >= COMPLETED + GROUPS as u8 {
+        return false;
+    }
+    largest(timeline, last as usize) == NONE
+}
+
+// The same of a table. Its rows have no number with a range.
+pub fn in_range(t: Table) -> bool
+    ensures { λ r. ⌜ ((present : List Bool) (values : List ℕ) → r ≡ inRange (stateOf t present values)) ⌝ }
+{
+    let writers = t.writers;
+    let index = t.index;
+    let timeline = t.timeline;
+    parts_in_range(t.last, t.lock, writers, &index, &timeline)
+}

@@ -1,0 +1,64 @@
+-- `slice_values` meets its contract, by those of its two callees.
+use Rattle.model.specs.Rules.{sliced}
+use borrow.Author.Needs.{needs}
+use Rattle.slices.proofs.copies.slice_values.Statement.{statement}
+use Rattle.slices.proofs.copies.slice_values.Tie as tie
+
+sub-row : tie.Need-sub-row
+sub-row c = search needs
+
+mul-row : tie.Need-mul-row
+mul-row c = search needs
+
+add-row : tie.Need-add-row
+add-row c = search needs
+
+mul-row-2 : tie.Need-mul-row-2
+mul-row-2 c = search needs
+
+add-row-2 : tie.Need-add-row-2
+add-row-2 c = search needs
+
+clear-values-requires : tie.Need-clear-values-requires
+clear-values-requires c κs = search needs
+
+mul-rows : tie.Need-mul-rows
+mul-rows c = search needs
+
+element-write-rows : tie.Need-element-write-rows
+element-write-rows c = search needs
+
+returns : tie.Need-returns
+unfolding sliced
+returns c = rw (c .clear-values .ensures, c .before .before .if1 .taken)
+
+copy-values-requires : tie.Need-copy-values-requires
+copy-values-requires c κs = search needs
+
+mul-rows-2 : tie.Need-mul-rows-2
+mul-rows-2 c = search needs
+
+element-write-rows-2 : tie.Need-element-write-rows-2
+element-write-rows-2 c = search needs
+
+returns-2 : tie.Need-returns-2
+unfolding sliced
+returns-2 c = rw (c .copy-values .ensures)
+
+pub slice-values-spec : {M : Type 1} → statement M
+slice-values-spec =
+    tie.close
+    (tie.spec
+    sub-row
+    mul-row
+    add-row
+    mul-row-2
+    add-row-2
+    clear-values-requires
+    mul-rows
+    element-write-rows
+    returns
+    copy-values-requires
+    mul-rows-2
+    element-write-rows-2
+    returns-2)
