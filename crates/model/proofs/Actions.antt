@@ -17,7 +17,8 @@ use Rattle.model.specs.declared.Operation.the-variants.{Put, Remove}
 use Rattle.model.specs.declared.Action.{Action}
 use Rattle.common.proofs.Cases.{cond-iff, by-test, set-ind}
 use Rattle.model.proofs.CompletedInstants.{newest-of}
-use Rattle.model.proofs.Outcomes.{Ruling, isRefused, isEnded, hasStarted, hasFound, hasProposed, hasRead, hasWritten, hasEntered, hasChecked, hasCommitted, rules}
+use Rattle.model.proofs.Outcomes.{Ruling, isRefused, isEnded, rules}
+use Rattle.model.proofs.Outcomes.{hasStarted, hasFound, hasProposed, hasRead, hasWritten, hasEntered, hasChecked, hasCommitted}
 use Rattle.model.proofs.Ranged.{WriterRanged, InstantRanged, SharedRanged}
 
 ready-ranged : (last : ℕ) → WriterRanged last ready
@@ -53,7 +54,7 @@ module _ {s : Shared} (f : SharedRanged s) where
       (λ j b. record { coded = f .instant j b .coded; above = λ a. f .instant j b .above (le-trans g a) }))
 
 -- after an action all is in range, and no timestamp is taken back
-pub record Kept (last : ℕ) (o : Outcome) : Type 0 where
+pub record OutcomeRanged (last : ℕ) (o : Outcome) : Type 0 where
   pub shared : SharedRanged (o .shared)
   pub writer : WriterRanged (o .shared .last) (o .writer)
   pub grows : last ≤ o .shared .last
@@ -62,10 +63,10 @@ module _ (x : Writer) (w : ℕ) (s : Shared) where
   pub record Sound (o : Outcome) : Type 0 where
     pub answer : o .answer ≢ outOfRange
     pub refused : aborted < o .answer → o ≡ outcome (o .answer) x s
-    pub kept : w < writers → SharedRanged s → WriterRanged (s .last) x → Kept (s .last) o
+    pub kept : w < writers → SharedRanged s → WriterRanged (s .last) x → OutcomeRanged (s .last) o
 
   -- not refused
-  accepts : {o : Outcome} → o .answer ≤ aborted → (w < writers → SharedRanged s → WriterRanged (s .last) x → Kept (s .last) o) → Sound o
+  accepts : {o : Outcome} → o .answer ≤ aborted → (w < writers → SharedRanged s → WriterRanged (s .last) x → OutcomeRanged (s .last) o) → Sound o
   accepts h k = record { answer = omega arith; refused = λ a. absurd (omega arith); kept = k }
 
   -- the writer is ready again, and the lock free if it held it

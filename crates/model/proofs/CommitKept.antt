@@ -5,14 +5,14 @@ use mathlib.Core.Option.{Option, none, some, map-eq-none-iff}
 use native.Mathlib.Omega.{arith}
 use Rattle.common.specs.Counting.{upd}
 use Rattle.model.specs.State.{ready}
-use Rattle.model.specs.History.{Pending, Committed, joined}
+use Rattle.model.specs.History.{Pending, Committed, commitRecorded}
 use Rattle.model.specs.declared.Writer.{Writer}
 use Rattle.common.proofs.Functions.{none-some, some-inj, upd-same, upd-other, upd-ind}
 use Rattle.model.proofs.Newest.{newest-kept}
 use Rattle.model.proofs.CommittedAt.{committedAt, groupIn}
 use Rattle.model.proofs.Moves.{View, leaves, afterCommit}
 use Rattle.model.proofs.Invariant.{InProgress, Based, CommittedFacts, Invariant, committed-completed}
-use Rattle.model.proofs.Kept.{SharedKept, Moved, Kept, committed-facts, writer-facts, timestamps-apart}
+use Rattle.model.proofs.Kept.{SharedKept, Moved, Kept, committed-facts, writer-facts, timestamps-unique}
 use Rattle.model.proofs.OwnFacts.{ready-facts, released-other, released-own}
 
 module _ (v : View) (w : ℕ) (i : Invariant v) where
@@ -66,7 +66,7 @@ module _ (v : View) (w : ℕ) (i : Invariant v) where
         }
 
     commit-moves : Moved v n w ready
-    unfolding joined
+    unfolding commitRecorded
     commit-moves =
         record {
           writer = refl;
@@ -75,7 +75,7 @@ module _ (v : View) (w : ℕ) (i : Invariant v) where
               λ u ne.
               record {
                 pending = upd-other (v .history .pending) w none u ne;
-                uncompleted = λ q. upd-other (v .completed) (x .ts) (some (x .group)) (v .writer u .ts) (λ e. ne (i .apart u w q (omega arith) e));
+                uncompleted = λ q. upd-other (v .completed) (x .ts) (some (x .group)) (v .writer u .ts) (λ e. ne (i .unique u w q (omega arith) e));
                 cell = λ q. refl;
                 stored = λ q. refl;
                 locks = released-other (v .lock) w u ne .0;
@@ -83,11 +83,11 @@ module _ (v : View) (w : ℕ) (i : Invariant v) where
                 latest = λ q. absurd (omega (arith, i .writer w .locks (omega arith), i .writer u .locks (omega arith)));
               };
           own = ready-facts n w (upd-same (v .history .pending) w none) (released-own (v .lock) w);
-          apart = λ u ne q r. absurd (omega arith);
+          unique = λ u ne q r. absurd (omega arith);
         }
 
     pub commit-keeps : Kept v n
-    unfolding joined committedAt
+    unfolding commitRecorded committedAt
     commit-keeps =
         let f = committedAt (v .history .done) in
         let c : Committed = record { operation = p .operation; ts = p .ts; group = x .group } in
@@ -114,6 +114,6 @@ module _ (v : View) (w : ℕ) (i : Invariant v) where
                     (λ s ne q. committed-facts v n commit-shared s (d .group) (d .operation) (committed-completed v i s d q) (i .committed s d q))
                     s e;
                 writer = writer-facts v n w ready i commit-moves;
-                apart = timestamps-apart v n w ready i commit-moves;
+                unique = timestamps-unique v n w ready i commit-moves;
               };
         }

@@ -59,7 +59,7 @@ pub record Invariant (v : View) : Type 0 where
   pub empty : (g k : ℕ) → v .cell g 0 k ≡ none
   pub committed : (s : ℕ) (c : Committed) → committedAt (v .history .done) s ≡ some c → CommittedFacts v s (c .group) (c .operation)
   pub writer : (w : ℕ) → WriterFacts v w (v .writer w)
-  pub apart : (a b : ℕ) → 0 < v .writer a .phase → 0 < v .writer b .phase → v .writer a .ts ≡ v .writer b .ts → a ≡ b
+  pub unique : (a b : ℕ) → 0 < v .writer a .phase → 0 < v .writer b .phase → v .writer a .ts ≡ v .writer b .ts → a ≡ b
 
 pub committed-completed : (v : View) → Invariant v → (s : ℕ) (c : Committed) → committedAt (v .history .done) s ≡ some c
     → v .completed s ≡ some (c .group)

@@ -5,7 +5,7 @@ use mathlib.Core.Option.{none, some}
 use native.Mathlib.Omega.{arith}
 use Rattle.model.specs.State.{ready}
 use Rattle.model.specs.Rules.{begun}
-use Rattle.model.specs.History.{Pending, started, dropped}
+use Rattle.model.specs.History.{Pending, startRecorded, endRecorded}
 use Rattle.model.specs.declared.Operation.{Operation}
 use Rattle.common.proofs.Functions.{upd-same, upd-other}
 use Rattle.model.proofs.Moves.{View, afterStart, afterEnd, Move, stays, starts, continues, ends, commits}
@@ -17,7 +17,7 @@ use Rattle.model.proofs.CommitKept.{commit-keeps}
 
 module _ (v : View) (w : ℕ) (i : Invariant v) where
   start-keeps : (op : Operation) → v .writer w .phase ≡ 0 → Kept v (afterStart v w op)
-  unfolding started
+  unfolding startRecorded
   start-keeps op at =
       let n = afterStart v w op in
       let x = begun op (v .last + 1) in
@@ -53,12 +53,12 @@ module _ (v : View) (w : ℕ) (i : Invariant v) where
               uncompleted = i .above (x .ts) (omega arith);
             })
             (λ q. absurd (omega arith)) (λ q. absurd (omega arith)) (λ q. omega (arith, i .writer w .holds q));
-        apart = λ u ne q r e. omega (arith, i .writer u .inProgress q .issued);
+        unique = λ u ne q r e. omega (arith, i .writer u .inProgress q .issued);
       })
       (omega arith) refl refl
 
   end-keeps : Kept v (afterEnd v w)
-  unfolding dropped
+  unfolding endRecorded
   end-keeps =
       uncommitted v (afterEnd v w) w ready i
       (record {
@@ -76,7 +76,7 @@ module _ (v : View) (w : ℕ) (i : Invariant v) where
               latest = λ q s e. e;
             };
         own = ready-facts (afterEnd v w) w (upd-same (v .history .pending) w none) (released-own (v .lock) w);
-        apart = λ u ne q r. absurd (omega arith);
+        unique = λ u ne q r. absurd (omega arith);
       })
       (i .last) refl refl
 

@@ -9,7 +9,7 @@ use lib.ListN.{replicate}
 use Rattle.model.specs.Limits.{writers, keys, timestamps}
 use Rattle.common.specs.Counting.{upd, listBelow}
 use Rattle.model.specs.State.{ready, fresh}
-use Rattle.model.specs.History.{Pending, History, empty, started, joined, dropped, newestOn, rowOfNewest, listing}
+use Rattle.model.specs.History.{Pending, History, empty, startRecorded, commitRecorded, endRecorded, newestOn, rowOfNewest, listing}
 use Rattle.model.specs.Isolation.{Execution, executed, beginning, after, Isolated}
 use Rattle.model.specs.declared.Writer.{Writer}
 use Rattle.model.specs.declared.Step.{Step}
@@ -19,7 +19,7 @@ use Rattle.model.proofs.Executed.{executed-keeps, executed-append}
 use Rattle.model.proofs.RangeKept.{fresh-in-range}
 use Rattle.model.proofs.CommittedAt.{committedAt, newest-on-later}
 use Rattle.model.proofs.Slices.{cell-zero}
-use Rattle.model.proofs.Lengths.{fresh-sized}
+use Rattle.model.proofs.Lengths.{fresh-lengths}
 use Rattle.model.proofs.Moves.{View, Move, stays, starts, continues, ends, commits}
 use Rattle.model.proofs.OwnFacts.{ready-facts}
 use Rattle.model.proofs.StepMoves.{viewOf, Consistent, step-moves, step-consistent}
@@ -39,7 +39,7 @@ fresh-consistent : Consistent beginning
 unfolding fresh empty committedAt
 fresh-consistent =
     record {
-      sized = fresh-sized;
+      lengths = fresh-lengths;
       ranged = fresh-in-range;
       invariant =
           record {
@@ -50,7 +50,7 @@ fresh-consistent =
             empty = cell-zero _ _;
             committed = λ s c e. absurd (none-some refl e);
             writer = λ w. rw (getD-fresh writers w ready) (ready-facts (viewOf beginning) w refl (λ e. omega arith));
-            apart = λ a b p q e. absurd (omega (arith, ap (λ (x : Writer). x .phase) (fresh-writer a)));
+            unique = λ a b p q e. absurd (omega (arith, ap (λ (x : Writer). x .phase) (fresh-writer a)));
           };
     }
 
@@ -76,7 +76,7 @@ module _ (t : ℕ) (h : History) (v : View) (w : ℕ) (s : Settled t h (v .histo
       upd-ind (v .history .pending) w none (λ u o. o ≡ some p → t < p .ts) (λ e. absurd (none-some refl e)) (λ u ne. s .later u p) u
 
   move-settled : (n : View) → Move v w n → Settled t h (n .history)
-  unfolding started dropped joined
+  unfolding startRecorded endRecorded commitRecorded
   move-settled n (stays e) = subst⁻¹ SettledIn e s
   move-settled n (starts op at e) =
       subst⁻¹ SettledIn e
@@ -118,5 +118,6 @@ isolated ss =
       stays =
           λ t positive issued later more buffer room.
           let same = listing-stays t (after ss) more h (record { issued = issued; later = later; same = λ k. refl }) in
-          rw (executed-append beginning ss more, ← same) (scan-listed (executed (after ss) more) (executed-consistent (after ss) more h) t buffer (rw same room));
+          rw (executed-append beginning ss more, ← same)
+          (scan-listed (executed (after ss) more) (executed-consistent (after ss) more h) t buffer (rw same room));
     }

@@ -1,5 +1,5 @@
 -- What a move keeps, and the whole invariant from it. A move changes one writer: `other-facts` and `committed-facts` carry the facts over of the other
--- writers and of what is committed, `writer-facts` and `timestamps-apart` put the writers together, and `uncommitted` is the whole for a move that
+-- writers and of what is committed, `writer-facts` and `timestamps-unique` put the writers together, and `uncommitted` is the whole for a move that
 -- commits nothing.
 use Prim.Native.Nat.{ℕ, pred, _+_, _≤_, _<_}
 use mathlib.Core.Path.{_≡_, refl, sym, subst⁻¹, ap, _∙_}
@@ -41,7 +41,7 @@ pub record Moved (v n : View) (w : ℕ) (x : Writer) : Type 0 where
   pub shared : SharedKept v n
   pub others : (u : ℕ) → u ≢ w → OtherKept v n u (v .writer u)
   pub own : WriterFacts n w x
-  pub apart : (u : ℕ) → u ≢ w → 0 < v .writer u .phase → 0 < x .phase → v .writer u .ts ≢ x .ts
+  pub unique : (u : ℕ) → u ≢ w → 0 < v .writer u .phase → 0 < x .phase → v .writer u .ts ≢ x .ts
 
 -- so it keeps the whole
 pub record Kept (v n : View) : Type 0 where
@@ -104,14 +104,14 @@ module _ (v n : View) (w : ℕ) (x : Writer) (i : Invariant v) (m : Moved v n w 
       subst⁻¹ (WriterFacts n u) (ap (λ (f : ℕ → Writer). f u) (m .writer))
       (upd-ind (v .writer) w x (WriterFacts n) (m .own) (λ u ne. other-facts v n (m .shared) u (v .writer u) (m .others u ne) (i .writer u)) u)
 
-  pub timestamps-apart : (a b : ℕ) → 0 < n .writer a .phase → 0 < n .writer b .phase → n .writer a .ts ≡ n .writer b .ts → a ≡ b
-  timestamps-apart =
+  pub timestamps-unique : (a b : ℕ) → 0 < n .writer a .phase → 0 < n .writer b .phase → n .writer a .ts ≡ n .writer b .ts → a ≡ b
+  timestamps-unique =
       let f = v .writer in
       rw (m .writer)
       (upd-ind f w x (λ a y. (b : ℕ) → 0 < y .phase → 0 < upd f w x b .phase → y .ts ≡ upd f w x b .ts → a ≡ b)
-      (upd-ind f w x (λ b y. 0 < x .phase → 0 < y .phase → x .ts ≡ y .ts → w ≡ b) (λ p q e. refl) (λ b ne p q e. absurd (m .apart b ne q p (sym e))))
+      (upd-ind f w x (λ b y. 0 < x .phase → 0 < y .phase → x .ts ≡ y .ts → w ≡ b) (λ p q e. refl) (λ b ne p q e. absurd (m .unique b ne q p (sym e))))
       (λ a ne.
-      upd-ind f w x (λ b y. 0 < f a .phase → 0 < y .phase → f a .ts ≡ y .ts → a ≡ b) (λ p q e. absurd (m .apart a ne p q e)) (λ b nb. i .apart a b)))
+      upd-ind f w x (λ b y. 0 < f a .phase → 0 < y .phase → f a .ts ≡ y .ts → a ≡ b) (λ p q e. absurd (m .unique a ne p q e)) (λ b nb. i .unique a b)))
 
   -- a move that commits nothing
   pub uncommitted : n .history .last ≡ n .last → n .history .done ≡ v .history .done → n .completed ≡ v .completed → Kept v n
@@ -130,6 +130,6 @@ module _ (v n : View) (w : ℕ) (x : Writer) (i : Invariant v) (m : Moved v n w 
                   let old : committedAt (v .history .done) s ≡ some c = rw done at e in
                   committed-facts v n (m .shared) s (c .group) (c .operation) (committed-completed v i s c old) (i .committed s c old);
               writer = writer-facts;
-              apart = timestamps-apart;
+              unique = timestamps-unique;
             };
       }

@@ -1,4 +1,4 @@
--- The lists of a state keep their lengths: `fresh-sized`, `step-sized`.
+-- The lists of a state have their lengths: `fresh-lengths`, and `step-lengths`, a step keeps them.
 use Prim.Native.Nat.{ℕ, _*_}
 use mathlib.Core.Path.{_≡_, ap, _∙_}
 use mathlib.Core.List.{List}
@@ -11,68 +11,73 @@ use Rattle.model.specs.declared.Writer.{Writer}
 use Rattle.model.specs.declared.Action.{Action}
 use Rattle.model.specs.declared.Step.{Step}
 use Rattle.common.proofs.Cases.{cond-iff, by-test}
-use Rattle.model.proofs.Outcomes.{Ruling, isRefused, isEnded, hasStarted, hasFound, hasProposed, hasRead, hasWritten, hasEntered, hasChecked, hasCommitted, rules}
+use Rattle.model.proofs.Outcomes.{Ruling, isRefused, isEnded, rules}
+use Rattle.model.proofs.Outcomes.{hasStarted, hasFound, hasProposed, hasRead, hasWritten, hasEntered, hasChecked, hasCommitted}
 use Rattle.model.proofs.Slices.{sliced-length}
 
-pub record SharedSized (s : Shared) : Type 0 where
+pub record SharedLengths (s : Shared) : Type 0 where
   pub index : length (s .index) ≡ keys
   pub timeline : length (s .timeline) ≡ timestamps
   pub present : length (s .present) ≡ rows
   pub values : length (s .values) ≡ rows
 
-pub record Sized (st : State) : Type 0 where
+pub record StateLengths (st : State) : Type 0 where
   pub writers : length (st .writers) ≡ writers
-  pub shared : SharedSized (st .shared)
+  pub shared : SharedLengths (st .shared)
 
 -- a setter keeps the lengths, if the new list has the old one's
-module _ {s : Shared} (h : SharedSized s) where
-  with-lock : {l : ℕ} → SharedSized (withLock s l)
+module _ {s : Shared} (h : SharedLengths s) where
+  with-lock : {l : ℕ} → SharedLengths (withLock s l)
   with-lock = search
 
-  with-index : {l : List ℕ} → length l ≡ keys → SharedSized (withIndex s l)
+  with-index : {l : List ℕ} → length l ≡ keys → SharedLengths (withIndex s l)
   with-index e = search
 
-  with-times : {m : ℕ} {l : List ℕ} → length l ≡ timestamps → SharedSized (withTimeline (withLast s m) l)
+  with-times : {m : ℕ} {l : List ℕ} → length l ≡ timestamps → SharedLengths (withTimeline (withLast s m) l)
   with-times e = search
 
-  with-rows : {p : List Bool} {v : List ℕ} → length p ≡ rows → length v ≡ rows → SharedSized (withValues (withPresent s p) v)
+  with-rows : {p : List Bool} {v : List ℕ} → length p ≡ rows → length v ≡ rows → SharedLengths (withValues (withPresent s p) v)
   with-rows e f = search
 
-  with-instant : {m : ℕ} (i y : ℕ) → SharedSized (withTimeline (withLast s m) (set (s .timeline) i y))
+  with-instant : {m : ℕ} (i y : ℕ) → SharedLengths (withTimeline (withLast s m) (set (s .timeline) i y))
   with-instant i y = with-times (length-set (s .timeline) i y ∙ h .timeline)
 
-ruling-sized : (x : Writer) (w : ℕ) (s : Shared) {a : Action} {v : Verdict} → Ruling x w s a v → SharedSized s → SharedSized (carried x w s v .shared)
-ruling-sized x w s (isRefused a n p) h = h
-ruling-sized x w s (isEnded a n p) h = with-lock h
-ruling-sized x w s (hasStarted op k g p l) h = with-instant h _ _
-ruling-sized x w s (hasFound p q) h = h
-ruling-sized x w s (hasProposed p q) h = h
-ruling-sized x w s (hasRead p q) h = with-instant h _ _
-ruling-sized x w s (hasWritten p) h =
+ruling-lengths : (x : Writer) (w : ℕ) (s : Shared) {a : Action} {v : Verdict} → Ruling x w s a v → SharedLengths s → SharedLengths (carried x w s v .shared)
+ruling-lengths x w s (isRefused a n p) h = h
+ruling-lengths x w s (isEnded a n p) h = with-lock h
+ruling-lengths x w s (hasStarted op k g p l) h = with-instant h _ _
+ruling-lengths x w s (hasFound p q) h = h
+ruling-lengths x w s (hasProposed p q) h = h
+ruling-lengths x w s (hasRead p q) h = with-instant h _ _
+ruling-lengths x w s (hasWritten p) h =
     with-rows h (sliced-length false (s .present) x (x .put) ∙ h .present) (sliced-length 0 (s .values) x (x .value) ∙ h .values)
-ruling-sized x w s (hasEntered i p e) h =
+ruling-lengths x w s (hasEntered i p e) h =
     with-lock
     (with-index h
     (by-test (x .put) (λ put. ap length (e .put put) ∙ length-set (s .index) _ _ ∙ h .index) (λ remove. ap length (e .remove remove) ∙ h .index)))
-ruling-sized x w s (hasChecked p q) h = h
-ruling-sized x w s (hasCommitted i p q) h = with-lock (with-instant h _ _)
+ruling-lengths x w s (hasChecked p q) h = h
+ruling-lengths x w s (hasCommitted i p q) h = with-lock (with-instant h _ _)
 
-pub step-sized : (st : State) (s : Step) → Sized st → Sized (step st s .state)
+pub step-lengths : (st : State) (s : Step) → StateLengths st → StateLengths (step st s .state)
 unfolding step stepTested act
-step-sized st s h =
+step-lengths st s h =
     let w = s .writer in
     let x : Writer = getD (st .writers) w ready in
-    simp (cond-iff (λ (r : Answered). Sized (r .state))) (
+    simp (cond-iff (λ (r : Answered). StateLengths (r .state))) (
       λ _. h,
       λ _. (
         λ _. h,
-        λ _. record { writers = length-set (st .writers) w _ ∙ h .writers; shared = ruling-sized x w (st .shared) (rules x w (st .shared) (s .action)) (h .shared) },
+        λ _.
+            record {
+              writers = length-set (st .writers) w _ ∙ h .writers;
+              shared = ruling-lengths x w (st .shared) (rules x w (st .shared) (s .action)) (h .shared);
+            },
       ),
     )
 
-pub fresh-sized : Sized fresh
+pub fresh-lengths : StateLengths fresh
 unfolding fresh
-fresh-sized =
+fresh-lengths =
     record {
       writers = length-replicate writers ready;
       shared =

@@ -7,7 +7,7 @@ use mathlib.Core.Option.{Option, none, some}
 use Rattle.common.specs.Counting.{upd}
 use Rattle.model.specs.State.{ready}
 use Rattle.model.specs.Rules.{begun, moved, released}
-use Rattle.model.specs.History.{Pending, History, started, joined, dropped}
+use Rattle.model.specs.History.{Pending, History, startRecorded, commitRecorded, endRecorded}
 use Rattle.model.specs.declared.Writer.{Writer}
 use Rattle.model.specs.declared.Operation.{Operation}
 use Rattle.model.specs.declared.Operation.the-variants.{Put, Remove}
@@ -49,7 +49,7 @@ afterStart v w op =
       completed = v .completed;
       cell = v .cell;
       writer = upd (v .writer) w (begun op (v .last + 1));
-      history = started (v .history) w (Start op);
+      history = startRecorded (v .history) w (Start op);
       stored = v .stored;
     }
 
@@ -77,7 +77,7 @@ afterEnd v w =
       completed = v .completed;
       cell = v .cell;
       writer = upd (v .writer) w ready;
-      history = dropped (v .history) w;
+      history = endRecorded (v .history) w;
       stored = v .stored;
     }
 
@@ -91,7 +91,7 @@ afterCommit v w p =
       completed = upd (v .completed) (v .writer w .ts) (some (v .writer w .group));
       cell = v .cell;
       writer = upd (v .writer) w ready;
-      history = joined (v .history) w (λ n. v .writer w .group) (some p);
+      history = commitRecorded (v .history) w (λ n. v .writer w .group) (some p);
       stored = v .stored;
     }
 

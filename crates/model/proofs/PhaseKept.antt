@@ -39,7 +39,7 @@ module _ (v : View) (w : ℕ) (i : Invariant v) where
               latest = λ q s r. r;
             };
         own = facts;
-        apart = λ u ne q r same. ne (i .apart u w q busy (same ∙ ts));
+        unique = λ u ne q r same. ne (i .unique u w q busy (same ∙ ts));
       })
       (i .last) refl refl
 
@@ -47,7 +47,8 @@ module _ (v : View) (w : ℕ) (i : Invariant v) where
   unshared : (x : Writer) → 0 < v .writer w .phase → x .ts ≡ v .writer w .ts
       → WriterFacts (afterPhase v w x (v .lock) (v .entry) (v .cell) (v .stored)) w x → Kept v (afterPhase v w x (v .lock) (v .entry) (v .cell) (v .stored))
   unshared x busy ts =
-      continued x (v .lock) (v .entry) (v .cell) (v .stored) busy ts (unchanged v _ (omega arith) refl refl refl refl) (λ u ne q. refl) (λ u ne q. refl) (λ u ne. (λ q. q, λ q. q))
+      continued x (v .lock) (v .entry) (v .cell) (v .stored) busy ts (unchanged v _ (omega arith) refl refl refl refl)
+      (λ u ne q. refl) (λ u ne q. refl) (λ u ne. (λ q. q, λ q. q))
 
   pub phase-keeps : {x : Writer} {l : ℕ} {e : ℕ → ℕ} {c : ℕ → ℕ → ℕ → Option ℕ} {d : ℕ → ℕ → Option ℕ}
       → NextPhase v w (v .writer w) x l e c d → Kept v (afterPhase v w x l e c d)
@@ -75,8 +76,8 @@ module _ (v : View) (w : ℕ) (i : Invariant v) where
         cell = λ s g hit. other g s (λ _ q. none-some (p .uncompleted) (rw q at (hit (omega (arith, p .positive)))));
         stored = λ s g hit. otherwise s (λ q. none-some (p .uncompleted) (rw q at hit));
       })
-      (λ u ne q. other (v .writer u .group) (v .writer u .ts) (λ _ r. ne (i .apart u w q (omega arith) r)))
-      (λ u ne q. otherwise (v .writer u .ts) (λ r. ne (i .apart u w q (omega arith) r))) (λ u ne. (λ q. q, λ q. q))
+      (λ u ne q. other (v .writer u .group) (v .writer u .ts) (λ _ r. ne (i .unique u w q (omega arith) r)))
+      (λ u ne q. otherwise (v .writer u .ts) (λ r. ne (i .unique u w q (omega arith) r))) (λ u ne. (λ q. q, λ q. q))
       (record {
         ready = λ q. absurd (omega arith);
         inProgress = λ q. p;

@@ -21,13 +21,13 @@ use Rattle.model.specs.declared.Step.{Step}
 use Rattle.common.proofs.Cases.{cond-iff, facts, set-ind}
 pub use Rattle.model.proofs.Ranged.{WriterRanged, Ranged, ranged, in-range}
 use Rattle.model.proofs.Executed.{executed-keeps}
-use Rattle.model.proofs.Actions.{Kept, act-sound}
+use Rattle.model.proofs.Actions.{OutcomeRanged, act-sound}
 
 later-ranged : {last n : ℕ} {x : Writer} → last ≤ n → WriterRanged last x → WriterRanged n x
 later-ranged h g =
     record { key = g .key; group = g .group; phase = g .phase; ts = le-trans (g .ts) h; base = le-trans (g .base) h; issued = g .issued }
 
-updated-ranged : (st : State) (w : ℕ) (o : Outcome) → Ranged st → Kept (st .shared .last) o → Ranged (updated st w o .state)
+updated-ranged : (st : State) (w : ℕ) (o : Outcome) → Ranged st → OutcomeRanged (st .shared .last) o → Ranged (updated st w o .state)
 updated-ranged st w o r k =
     record {
       shared = k .shared;

@@ -8,7 +8,7 @@ use native.Mathlib.Omega.{arith}
 use lib.ListN.{length, getD, set}
 use lib.Seq.{set-getD}
 use lib.Dec.{eqb}
-use borrow.Author.Tests.{ne-eqb, le-leb, lt-leb}
+use borrow.Author.Tests.{ne-eqb}
 use Rattle.model.specs.Limits.{writers, timestamps}
 use Rattle.model.specs.Answers.{taken, committed, aborted}
 use Rattle.common.specs.Counting.{upd}
@@ -16,19 +16,22 @@ use Rattle.model.specs.State.{Shared, requested, inflight, completed, ce
 use Rattle.model.specs.Range.{inRange}
 use Rattle.model.specs.Rules.{begun, moved, Verdict, carried, act, Answered, updated, stepTested, step}
 use Rattle.model.specs.Snapshot.{instantOf}
-use Rattle.model.specs.History.{Pending, History, started, joined, dropped, recorded}
+use Rattle.model.specs.History.{Pending, History, startRecorded, commitRecorded, endRecorded, recorded}
 use Rattle.model.specs.Isolation.{Execution, isWrite, sliceOf, storedBy, answeredBy, next}
 use Rattle.model.specs.declared.Writer.{Writer}
 use Rattle.model.specs.declared.Action.{Action}
 use Rattle.model.specs.declared.Step.{Step}
 use Rattle.common.proofs.Cases.{cond-iff, facts}
 use Rattle.common.proofs.Functions.{upd-same, upd-id, getD-upd}
-use Rattle.model.proofs.CompletedInstants.{groupCompleted, completedAt, completed-group, requested-group, inflight-group, instant-next, instant-set, completed-upd, newest-of, group-given}
+use Rattle.model.proofs.CompletedInstants.{groupCompleted, completedAt, completed-group, requested-group, inflight-group}
+use Rattle.model.proofs.CompletedInstants.{instant-next, instant-set, completed-upd, newest-of, group-given}
 use Rattle.model.proofs.RangeKept.{WriterRanged, ranged, step-in-range}
-use Rattle.model.proofs.Outcomes.{Ruling, isRefused, isEnded, hasStarted, hasFound, hasProposed, hasRead, hasWritten, hasEntered, hasChecked, hasCommitted, rules}
+use Rattle.model.proofs.Outcomes.{Ruling, isRefused, isEnded, rules}
+use Rattle.model.proofs.Outcomes.{hasStarted, hasFound, hasProposed, hasRead, hasWritten, hasEntered, hasChecked, hasCommitted}
 use Rattle.model.proofs.Slices.{stored-own, cell-sliced}
-use Rattle.model.proofs.Lengths.{Sized, step-sized}
-use Rattle.model.proofs.Moves.{View, afterStart, afterPhase, afterEnd, afterCommit, looksUp, reads, writes, indexes, checks, Move, stays, starts, continues, ends, commits}
+use Rattle.model.proofs.Lengths.{StateLengths, step-lengths}
+use Rattle.model.proofs.Moves.{View, afterStart, afterPhase, afterEnd, afterCommit, looksUp, reads, writes, indexes, checks}
+use Rattle.model.proofs.Moves.{Move, stays, starts, continues, ends, commits}
 use Rattle.model.proofs.Invariant.{Invariant}
 use Rattle.model.proofs.InvariantKept.{move-keeps}
 
@@ -47,7 +50,7 @@ viewOf u =
 
 -- a table and a history that satisfy the invariant
 pub record Consistent (u : Execution) : Type 0 where
-  pub sized : Sized (u .state)
+  pub lengths : StateLengths (u .state)
   pub ranged : inRange (u .state) ≡ true
   pub invariant : Invariant (viewOf u)
 
@@ -59,36 +62,40 @@ view-path v n p q r s t x h d =
 -- the history after an answer
 recorded-refused : (h : History) (s : Step) (n : ℕ) (g : ℕ → ℕ) → aborted < n → recorded h s n g ≡ h
 unfolding recorded
-recorded-refused h s n g p = rw (ne-eqb n taken (omega arith), ne-eqb n committed (omega arith), lt-leb n aborted p)
+recorded-refused h s n g p =
+    simp (cond-iff (λ r. r ≡ h), facts) (λ e. absurd (omega arith), λ _. (λ e. absurd (omega arith), λ _. (λ le. absurd (omega arith), λ _. refl)))
 
-recorded-ended : (h : History) (s : Step) (n : ℕ) (g : ℕ → ℕ) → committed < n → n ≤ aborted → recorded h s n g ≡ dropped h (s .writer)
+recorded-ended : (h : History) (s : Step) (n : ℕ) (g : ℕ → ℕ) → committed < n → n ≤ aborted → recorded h s n g ≡ endRecorded h (s .writer)
 unfolding recorded
-recorded-ended h s n g p q = rw (ne-eqb n taken (omega arith), ne-eqb n committed (omega arith), le-leb n aborted q)
+recorded-ended h s n g p q =
+    simp (cond-iff (λ r. r ≡ endRecorded h (s .writer)), facts)
+    (λ e. absurd (omega arith), λ _. (λ e. absurd (omega arith), λ _. (λ _. refl, λ lt. absurd (omega arith))))
 
-recorded-taken : (h : History) (s : Step) (g : ℕ → ℕ) → recorded h s taken g ≡ started h (s .writer) (s .action)
+recorded-taken : (h : History) (s : Step) (g : ℕ → ℕ) → recorded h s taken g ≡ startRecorded h (s .writer) (s .action)
 unfolding recorded
 recorded-taken h s g = refl
 
-recorded-committed : (h : History) (s : Step) (g : ℕ → ℕ) → recorded h s committed g ≡ joined h (s .writer) g (h .pending (s .writer))
+recorded-committed : (h : History) (s : Step) (g : ℕ → ℕ) → recorded h s committed g ≡ commitRecorded h (s .writer) g (h .pending (s .writer))
 unfolding recorded
 recorded-committed h s g = refl
 
-stored-refused : (d : ℕ → ℕ → Option ℕ) (s : Step) (n : ℕ) (sh : Shared) (x : Writer) → taken < n → storedBy d s n sh x ≡ d
-unfolding storedBy
-stored-refused d s n sh x p = rw (ne-eqb n taken (omega arith))
+-- the stored slices after an answer
+module _ (d : ℕ → ℕ → Option ℕ) (s : Step) (r : Answered) (x : Writer) where
+  stored-untaken : taken < r .answer → storedBy d s r x ≡ d
+  unfolding storedBy
+  stored-untaken p = rw (ne-eqb (r .answer) taken (omega arith))
 
-stored-unwritten : (d : ℕ → ℕ → Option ℕ) (s : Step) (n : ℕ) (sh : Shared) (x : Writer) → isWrite (s .action) ≡ false → storedBy d s n sh x ≡ d
-unfolding storedBy
-stored-unwritten d s n sh x e = rw (e, and-false (eqb n taken))
+  stored-unwritten : isWrite (s .action) ≡ false → storedBy d s r x ≡ d
+  unfolding storedBy
+  stored-unwritten e = rw (e, and-false (eqb (r .answer) taken))
 
-stored-written : (d : ℕ → ℕ → Option ℕ) (s : Step) (sh : Shared) (x : Writer) → isWrite (s .action) ≡ true
-    → storedBy d s taken sh x ≡ upd d (x .ts) (sliceOf sh x)
-unfolding storedBy
-stored-written d s sh x e = rw e
+  stored-written : r .answer ≡ taken → isWrite (s .action) ≡ true → storedBy d s r x ≡ upd d (x .ts) (sliceOf (r .state .shared) x)
+  unfolding storedBy
+  stored-written a e = rw (a, e)
 
-joined-group : (h : History) (w : ℕ) (p : Pending) (g i : ℕ → ℕ) → g (p .ts) ≡ i (p .ts) → joined h w g (some p) ≡ joined h w i (some p)
-unfolding joined
-joined-group h w p g i e = rw e
+commit-group : (h : History) (w : ℕ) (p : Pending) (g i : ℕ → ℕ) → g (p .ts) ≡ i (p .ts) → commitRecorded h w g (some p) ≡ commitRecorded h w i (some p)
+unfolding commitRecorded
+commit-group h w p g i e = rw e
 
 module _ (u : Execution) (h : Consistent u) (w : ℕ) (there : w < writers) where
   abbrev v : View
@@ -107,58 +114,63 @@ module _ (u : Execution) (h : Consistent u) (w : ℕ) (there : w < writers) wher
   issued = omega (arith, fits .ts, ranged (u .state) (h .ranged) .shared .last)
 
   listed : x .ts ≤ length (sh .timeline)
-  listed = omega (arith, issued, h .sized .shared .timeline)
+  listed = omega (arith, issued, h .lengths .shared .timeline)
 
   writer-path : (y : Writer) → (λ (i : ℕ). getD (set (u .state .writers) w y) i ready) ≡ upd (v .writer) w y
-  writer-path y = getD-upd (u .state .writers) w y ready (omega (arith, h .sized .writers))
+  writer-path y = getD-upd (u .state .writers) w y ready (omega (arith, h .lengths .writers))
 
   entry-path : (i : List ℕ) {l : List ℕ} → i ≡ l → _≡_ {A = ℕ → ℕ} (λ k. getD i k 0) (λ k. getD l k 0)
   entry-path i e = ap {B = ℕ → ℕ} (λ (l : List ℕ) (k : ℕ). getD l k 0) e
 
   ruling-moves : {a : Action} {r : Verdict} → Ruling x w sh a r → inRange (updated (u .state) w (carried x w sh r) .state) ≡ true
       → Move v w (viewOf (answeredBy u (record { writer = w; action = a }) (updated (u .state) w (carried x w sh r))))
-  unfolding started
+  unfolding startRecorded
   ruling-moves (isRefused a n p) fine =
       stays
       (view-path _ v refl refl refl refl refl
       (ap {B = ℕ → Writer} (λ (l : List Writer) (i : ℕ). getD l i ready) (set-getD (u .state .writers) w ready)) (recorded-refused _ _ n _ (omega arith))
-      (stored-refused _ _ n _ _ (omega arith)))
-  ruling-moves (isEnded a n p) fine = ends (view-path _ (afterEnd v w) refl refl refl refl refl (writer-path ready) (recorded-ended _ _ n _ (p .0) (p .1))
-      (stored-refused _ _ n _ _ (omega arith)))
+      (stored-untaken _ _ _ _ (omega arith)))
+  ruling-moves (isEnded a n p) fine =
+      ends
+      (view-path _ (afterEnd v w) refl refl refl refl refl (writer-path ready) (recorded-ended _ _ n _ (p .0) (p .1))
+      (stored-untaken _ _ _ _ (omega arith)))
   ruling-moves (hasStarted op k g p l) fine =
       starts op p
       (view-path _ (afterStart v w op) refl refl refl
-      (completed-upd (sh .timeline) _ (suc (sh .last)) requested (instant-next (sh .timeline) (sh .last) requested (omega (arith, h .sized .shared .timeline)))
+      (completed-upd (sh .timeline) _ (suc (sh .last)) requested
+      (instant-next (sh .timeline) (sh .last) requested (omega (arith, h .lengths .shared .timeline)))
       ∙ upd-id (v .completed) (suc (sh .last)) _ (h .invariant .above (suc (sh .last)) (omega arith) ∙ sym requested-group))
-      refl (writer-path (begun op (sh .last + 1))) (recorded-taken _ _ _) (stored-unwritten _ _ _ _ _ refl))
+      refl (writer-path (begun op (sh .last + 1))) (recorded-taken _ _ _) (stored-unwritten _ _ _ _ refl))
   ruling-moves (hasFound p ne) fine =
       continues (looksUp (v .entry (x .key) - 1) p (λ r. omega arith))
-      (view-path _ (afterPhase v w _ _ _ _ _) refl refl refl refl refl (writer-path _) (recorded-taken _ _ _) (stored-unwritten _ _ _ _ _ refl))
+      (view-path _ (afterPhase v w _ _ _ _ _) refl refl refl refl refl (writer-path _) (recorded-taken _ _ _) (stored-unwritten _ _ _ _ refl))
   ruling-moves (hasProposed p put) fine =
       continues (looksUp _ p (λ r. absurd (true≢false (sym put ∙ r))))
-      (view-path _ (afterPhase v w _ _ _ _ _) refl refl refl refl refl (writer-path _) (recorded-taken _ _ _) (stored-unwritten _ _ _ _ _ refl))
+      (view-path _ (afterPhase v w _ _ _ _ _) refl refl refl refl refl (writer-path _) (recorded-taken _ _ _) (stored-unwritten _ _ _ _ refl))
   ruling-moves (hasRead p q) fine =
       continues (reads _ p (newest-of (sh .timeline) (x .group) (sh .last)) q)
       (view-path _ (afterPhase v w _ _ _ _ _) refl refl refl
-      (completed-upd (sh .timeline) _ (x .ts) (inflight (x .group)) (instant-set (sh .timeline) (x .ts) (inflight (x .group)) (fits .issued (omega arith)) listed)
+      (completed-upd (sh .timeline) _ (x .ts) (inflight (x .group))
+      (instant-set (sh .timeline) (x .ts) (inflight (x .group)) (fits .issued (omega arith)) listed)
       ∙ upd-id (v .completed) (x .ts) _ (h .invariant .writer w .inProgress (omega arith) .uncompleted ∙ sym (inflight-group (x .group) (fits .group))))
-      refl (writer-path _) (recorded-taken _ _ _) (stored-unwritten _ _ _ _ _ refl))
+      refl (writer-path _) (recorded-taken _ _ _) (stored-unwritten _ _ _ _ refl))
   ruling-moves (hasWritten p) fine =
       let y = moved x 4 (x .group) (x .base) in
       let slices =
-      cell-sliced (sh .present) (sh .values) x (fits .issued (omega arith)) (fits .group) (fits .key) (omega (arith, issued, h .sized .shared .present))
-      (omega (arith, issued, h .sized .shared .values)) in
+      cell-sliced (sh .present) (sh .values) x (fits .issued (omega arith)) (fits .group) (fits .key) (omega (arith, issued, h .lengths .shared .present))
+      (omega (arith, issued, h .lengths .shared .values)) in
       continues (writes p)
       (view-path _ (afterPhase v w _ _ _ _ _) refl refl refl refl slices (writer-path y) (recorded-taken _ _ _)
-      (stored-written _ _ _ _ refl ∙ rw (ap (λ (f : ℕ → Writer). f w) (writer-path y), upd-same (v .writer) w y, slices, stored-own (v .cell) x)))
+      (stored-written _ _ _ _ refl refl
+      ∙ rw (ap (λ (f : ℕ → Writer). f w) (writer-path y), upd-same (v .writer) w y, slices) (ap (upd (v .stored) (x .ts)) (stored-own (v .cell) x))))
   ruling-moves (hasEntered i p e) fine =
       continues
-      (indexes (λ k. getD i k 0) (λ put. entry-path i (e .put put) ∙ getD-upd (sh .index) (x .key) _ 0 (omega (arith, fits .key, h .sized .shared .index)))
+      (indexes (λ k. getD i k 0) (λ put. entry-path i (e .put put) ∙ getD-upd (sh .index) (x .key) _ 0 (omega (arith, fits .key, h .lengths .shared .index)))
       (λ remove. entry-path i (e .remove remove)) p (e .free) (e .same))
-      (view-path _ (afterPhase v w _ _ _ _ _) refl refl refl refl refl (writer-path _) (recorded-taken _ _ _) (stored-unwritten _ _ _ _ _ refl))
+      (view-path _ (afterPhase v w _ _ _ _ _) refl refl refl refl refl (writer-path _) (recorded-taken _ _ _) (stored-unwritten _ _ _ _ refl))
   ruling-moves (hasChecked p q) fine =
       continues (checks _ p (newest-of (sh .timeline) (x .group) (sh .last)) q)
-      (view-path _ (afterPhase v w _ _ _ _ _) refl refl refl refl refl (writer-path _) (recorded-taken _ _ _) (stored-unwritten _ _ _ _ _ refl))
+      (view-path _ (afterPhase v w _ _ _ _ _) refl refl refl refl refl (writer-path _) (recorded-taken _ _ _) (stored-unwritten _ _ _ _ refl))
   ruling-moves (hasCommitted i p is) fine =
       let b = h .invariant .writer w .inProgress (omega arith) in
       let done = instant-set (sh .timeline) (x .ts) i (fits .issued (omega arith)) listed in
@@ -167,7 +179,8 @@ module _ (u : Execution) (h : Consistent u) (w : ℕ) (there : w < writers) wher
       (view-path _ (afterCommit v w (b .pending)) refl refl refl
       (completed-upd (sh .timeline) _ (x .ts) i done ∙ ap (upd (v .completed) (x .ts)) (ap groupCompleted is ∙ completed-group (x .group)))
       refl (writer-path ready)
-      (recorded-committed _ _ _ ∙ ap (joined (u .history) w _) (b .is) ∙ joined-group (u .history) w (b .pending) _ (λ n. x .group) given) (stored-unwritten _ _ _ _ _ refl))
+      (recorded-committed _ _ _ ∙ ap (commitRecorded (u .history) w _) (b .is) ∙ commit-group (u .history) w (b .pending) _ (λ n. x .group) given)
+      (stored-unwritten _ _ _ _ refl))
 
 pub step-moves : (u : Execution) (s : Step) → Consistent u → Move (viewOf u) (s .writer) (viewOf (next u s))
 unfolding next step stepTested act recorded storedBy
@@ -187,7 +200,7 @@ pub step-consistent : (u : Execution) (s : Step) → Consistent u → Consistent
 unfolding next
 step-consistent u s h =
     record {
-      sized = step-sized (u .state) s (h .sized);
+      lengths = step-lengths (u .state) s (h .lengths);
       ranged = step-in-range (u .state) s (h .ranged);
       invariant = move-keeps (viewOf u) (viewOf (next u s)) (s .writer) (h .invariant) (step-moves u s h) .invariant;
     }

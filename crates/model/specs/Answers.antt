@@ -1,62 +1,63 @@
--- The answers, document 01, "Answer numbers" and "Reading at a timestamp".
+-- The answers (document 01, Answer numbers and Reading at a timestamp).
+-- 1 to 6 end an operation, from `committed` to `aborted`; what is above `aborted` is a refusal and changes nothing.
 use Prim.Native.Nat.{ℕ}
 
--- step taken
+-- the step is taken, and the operation goes on
 abbrev pub taken : ℕ
 taken = 0
 
--- committed
+-- the operation is committed
 abbrev pub committed : ℕ
 committed = 1
 
--- key not indexed
+-- it ends: a remove of a key that has no index entry
 abbrev pub notIndexed : ℕ
 notIndexed = 2
 
--- too late for the group
+-- it ends: its group has a newer commit already
 abbrev pub tooLate : ℕ
 tooLate = 3
 
--- key belongs to another group
+-- it ends: its key is indexed to another group
 abbrev pub otherGroup : ℕ
 otherGroup = 4
 
--- group changed since the read
+-- it ends: its group has a commit newer than the base
 abbrev pub groupChanged : ℕ
 groupChanged = 5
 
--- gave up
+-- it ends: its writer gave it up
 abbrev pub aborted : ℕ
 aborted = 6
 
--- no such writer
+-- there is no such writer
 abbrev pub noWriter : ℕ
 noWriter = 10
 
--- no such key
+-- there is no such key
 abbrev pub noKey : ℕ
 noKey = 12
 
--- no such group (put)
+-- there is no such file group, in a put
 abbrev pub noGroup : ℕ
 noGroup = 13
 
--- phase doesn't fit
+-- the writer's phase is not that of the action
 abbrev pub wrongPhase : ℕ
 wrongPhase = 14
 
--- all timestamps issued (start)
+-- all timestamps are issued, at a start
 abbrev pub noTimestamp : ℕ
 noTimestamp = 15
 
--- lock held by another (index)
+-- another writer holds the lock, at an index step
 abbrev pub locked : ℕ
 locked = 16
 
--- table value out of range
+-- a number of the table is out of its range
 abbrev pub outOfRange : ℕ
 outOfRange = 17
 
--- a scan's rows don't fit
+-- the rows of a scan do not fit
 abbrev pub noRoom : ℕ
 noRoom = 31

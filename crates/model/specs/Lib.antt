@@ -1,10 +1,10 @@
 pub mod Limits
-pub mod Answers
 pub mod State
-pub mod Range
 pub mod Rules
-pub mod Machine
+pub mod Answers
+pub mod Range
 pub mod Snapshot
-pub mod Calls
 pub mod History
 pub mod Isolation
+pub mod Machine
+pub mod Calls

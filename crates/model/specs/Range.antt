@@ -1,6 +1,4 @@
--- Answer 17, document 01, "Answer numbers": "17 means only that some stored number lies outside its range above, a phase outside 0 to 6,
--- a timestamp (a kept instant's too) or base above the last issued, or a timestamp of 0 for a writer off phase 0."
--- A value needs no test: its type is its range.
+-- The grounds of answer 17 (document 01, below the answer numbers), one test each. A value needs none: its type is its range.
 use Prim.Native.Nat.{ℕ}
 use mathlib.Core.Bool.{Bool, _||_}
 use mathlib.Core.List.{List, [], _∷_}
@@ -11,7 +9,7 @@ use Rattle.common.specs.Counting.{every, eachBelow}
 use Rattle.model.specs.State.{State, ready, completed}
 use Rattle.model.specs.declared.Writer.{Writer}
 
--- a writer's numbers, where `last` is the last timestamp issued
+-- a writer's numbers, where `last` is the last timestamp issued; off phase 0 it has a timestamp
 abbrev pub writerTests : ℕ → Writer → List Bool
 writerTests last x =
     ltb (x .key) keys ∷ ltb (x .group) groups ∷ leb (x .phase) 6 ∷ leb (x .ts) last ∷ leb (x .base) last ∷ (eqb (x .phase) 0 || ltb 0 (x .ts)) ∷ []
@@ -35,7 +33,7 @@ instantsInRange timeline = eachBelow timestamps (λ i. ltb (getD timeline i 0) (
 unfoldable pub noneAbove : ℕ → List ℕ → Bool
 noneAbove last timeline = eachBelow timestamps (λ i. ltb i last || eqb (getD timeline i 0) 0)
 
--- every stored number of a table is in its range: answer 17 is given exactly where this is false
+-- every stored number of a table is in its range: 17 is given exactly where this is false
 unfoldable pub inRange : State → Bool
 inRange st =
     every

@@ -1,4 +1,4 @@
--- The rules of a step, document 01, "A writer's walk": what each action makes of the writer's own record and of what all writers share.
+-- The rules of a step (document 01, A writer's walk): what each action makes of the writer's own record and of what all writers share.
 -- The walk is the commit protocol of an operation.
 use Prim.Native.Nat.{ℕ, zero, suc, _+_, _-_}
 use mathlib.Core.Bool.{Bool, true, false, cond, not, _&&_}
@@ -6,8 +6,10 @@ use mathlib.Core.List.{List}
 use lib.ListN.{getD, set}
 use lib.Dec.{eqb, ltb, leb}
 use Rattle.model.specs.Limits.{writers, keys, groups, timestamps}
-use Rattle.model.specs.Answers.{taken, committed, notIndexed, tooLate, otherGroup, groupChanged, aborted, noWriter, noKey, noGroup, wrongPhase, noTimestamp, locked, outOfRange}
-use Rattle.model.specs.State.{Shared, State, withLast, withLock, withIndex, withTimeline, withPresent, withValues, requested, inflight, completed, newest, rowAt, rowIn, ready}
+use Rattle.model.specs.Answers.{taken, committed, notIndexed, tooLate, otherGroup, groupChanged, aborted}
+use Rattle.model.specs.Answers.{noWriter, noKey, noGroup, wrongPhase, noTimestamp, locked, outOfRange}
+use Rattle.model.specs.State.{Shared, State, ready, requested, inflight, completed, newest, rowAt, rowIn}
+use Rattle.model.specs.State.{withLast, withLock, withIndex, withTimeline, withPresent, withValues}
 use Rattle.model.specs.Range.{inRange}
 use Rattle.model.specs.declared.Writer.{Writer}
 use Rattle.model.specs.declared.Operation.{Operation}
@@ -15,6 +17,32 @@ use Rattle.model.specs.declared.Operation.the-variants.{Put, Remove}
 use Rattle.model.specs.declared.Action.{Action}
 use Rattle.model.specs.declared.Action.the-variants.{Start, LookUp, Read, Write, Index, Check, Commit, Abort}
 use Rattle.model.specs.declared.Step.{Step}
+
+-- an operation's key, and the file group that a put proposes
+abbrev pub keyOf : Operation → ℕ
+keyOf (Put k v g) = k
+keyOf (Remove k) = k
+
+abbrev pub groupOf : Operation → ℕ
+groupOf (Put k v g) = g
+groupOf (Remove k) = 0
+
+-- a writer that has started an operation under timestamp n
+abbrev pub begun : Operation → ℕ → Writer
+begun (Put k v g) n = record { phase = 1; put = true; key = k; group = g; ts = n; base = 0; value = v }
+begun (Remove k) n = record { phase = 1; put = false; key = k; group = 0; ts = n; base = 0; value = 0 }
+
+-- a writer at another phase, with a file group and a base
+abbrev pub moved : Writer → ℕ → ℕ → ℕ → Writer
+moved x phase group base = record { phase = phase; put = x .put; key = x .key; group = group; ts = x .ts; base = base; value = x .value }
+
+-- the index entry of key k: 0, or its file group + 1
+abbrev pub entryOf : Shared → ℕ → ℕ
+entryOf s k = getD (s .index) k 0
+
+-- the largest completed timestamp of file group g, or 0
+abbrev pub newestOf : Shared → ℕ → ℕ
+newestOf s g = newest (s .timeline) g (s .last)
 
 -- another instant at timestamp n
 abbrev pub withInstant : Shared → ℕ → ℕ → Shared
@@ -33,29 +61,15 @@ copied absent rows g b n (suc k) = set (copied absent rows g b n k) (rowAt g n k
 unfoldable pub sliced : {A : Type 0} → A → List A → ℕ → ℕ → ℕ → ℕ → A → List A
 sliced absent rows g b n k v = set (copied absent rows g b n keys) (rowAt g n k) v
 
--- the slice of a writer's operation stored; "A base above 0 at which no slice is stored counts as no rows", since none of its rows is present
+-- the slice of a writer's operation stored; a base with no slice stored gives no rows, since none of them is present (document 01, A writer's walk, end)
 abbrev pub withSlice : Shared → Writer → Shared
 withSlice s x =
     withValues (withPresent s (sliced false (s .present) (x .group) (x .base) (x .ts) (x .key) (x .put)))
     (sliced 0 (s .values) (x .group) (x .base) (x .ts) (x .key) (x .value))
 
--- an operation's key, and the file group that a put proposes
-abbrev pub keyOf : Operation → ℕ
-keyOf (Put k v g) = k
-keyOf (Remove k) = k
-
-abbrev pub groupOf : Operation → ℕ
-groupOf (Put k v g) = g
-groupOf (Remove k) = 0
-
--- a writer that has started an operation under timestamp n
-abbrev pub begun : Operation → ℕ → Writer
-begun (Put k v g) n = record { phase = 1; put = true; key = k; group = g; ts = n; base = 0; value = v }
-begun (Remove k) n = record { phase = 1; put = false; key = k; group = 0; ts = n; base = 0; value = 0 }
-
--- a writer at its next phase, with a file group and a base
-abbrev pub moved : Writer → ℕ → ℕ → ℕ → Writer
-moved x p g b = record { phase = p; put = x .put; key = x .key; group = g; ts = x .ts; base = b; value = x .value }
+-- a lock or an index entry, which is 0 for none and m + 1 for m: it is set, and not to n
+abbrev pub namesOther : ℕ → ℕ → Bool
+namesOther e n = not (eqb e 0) && not (eqb e (n + 1))
 
 -- what a rule says of a step: it is refused with a number; or the operation ends with a number; or the writer goes on, as the record given.
 -- The last two come with the shared part after them
@@ -64,7 +78,10 @@ pub data Verdict : Type 0 where
   ended : ℕ → Shared → Verdict
   goesOn : Writer → Shared → Verdict
 
--- 1. "Start (phase 0): the next timestamp, last issued plus 1, is given to it; the instant is requested. Phase 1."
+-- The rules, in the order of document 01, A writer's walk. Each tests its refusals in the order of document 01, Answer numbers; 17 and 10 come
+-- before all rules, in `stepTested`.
+
+-- 1: the operation is judged, then a ready writer takes the next timestamp, whose instant is requested
 unfoldable pub start : Writer → Shared → Operation → Verdict
 start x s op =
     cond (leb keys (keyOf op)) (refused noKey)
@@ -72,51 +89,44 @@ start x s op =
     (cond (not (eqb (x .phase) 0)) (refused wrongPhase)
     (cond (leb timestamps (s .last)) (refused noTimestamp) (goesOn (begun op (s .last + 1)) (issued s)))))
 
--- 2. "Look up (1): an indexed key gives its group. An unindexed put takes its proposed group. An unindexed remove ends with 2. Else phase 2."
+-- 2: the group is that of the key's index entry; without one a put takes the group that it proposes, and a remove ends
 unfoldable pub lookUp : Writer → Shared → Verdict
 lookUp x s =
     cond (not (eqb (x .phase) 1)) (refused wrongPhase)
-    (cond (not (eqb (getD (s .index) (x .key) 0) 0)) (goesOn (moved x 2 (getD (s .index) (x .key) 0 - 1) (x .base)) s)
+    (cond (not (eqb (entryOf s (x .key)) 0)) (goesOn (moved x 2 (entryOf s (x .key) - 1) (x .base)) s)
     (cond (x .put) (goesOn (moved x 2 (x .group) (x .base)) s) (ended notIndexed s)))
 
--- 3. "Read (2): if a completed instant of this group has a timestamp above the writer's own, it ends with 3 and the instant stays requested.
--- Else the base is the largest completed timestamp of the group, or 0; the instant becomes inflight. Phase 3."
+-- 3: the base is the newest completed timestamp of the group, and the instant is inflight; one newer than the writer's own ends it, still requested
 unfoldable pub readBase : Writer → Shared → Verdict
 readBase x s =
     cond (not (eqb (x .phase) 2)) (refused wrongPhase)
-    (cond (ltb (x .ts) (newest (s .timeline) (x .group) (s .last))) (ended tooLate s)
-    (goesOn (moved x 3 (x .group) (newest (s .timeline) (x .group) (s .last))) (withInstant s (x .ts) (inflight (x .group)))))
+    (cond (ltb (x .ts) (newestOf s (x .group))) (ended tooLate s)
+    (goesOn (moved x 3 (x .group) (newestOf s (x .group))) (withInstant s (x .ts) (inflight (x .group)))))
 
--- 4. "Write (3): a slice for this group and timestamp is stored: the base slice's rows (none for base 0) with the one key put or removed.
--- Readers don't see it yet. Phase 4."
+-- 4: the slice of the writer's group and timestamp is stored; no read shows it while the instant is inflight
 unfoldable pub writeSlice : Writer → Shared → Verdict
 writeSlice x s = cond (not (eqb (x .phase) 3)) (refused wrongPhase) (goesOn (moved x 4 (x .group) (x .base)) (withSlice s x))
 
--- a lock or an index entry, which is 0 for none and m + 1 for m: it is set, and not to n
-abbrev pub namesOther : ℕ → ℕ → Bool
-namesOther e n = not (eqb e 0) && not (eqb e (n + 1))
-
--- 5. "Index (4): takes the table lock. If the key is indexed to another group, the writer ends with 4. Else a put enters key and group. Phase 5, lock held."
--- "An index entry, once made, stays, after a remove and also after an operation that ended later.": no other rule changes the index.
+-- 5: the lock is taken; a key indexed to another group ends the operation, else a put enters its group. No other rule changes the index
 unfoldable pub enterIndex : Writer → ℕ → Shared → Verdict
 enterIndex x w s =
     cond (not (eqb (x .phase) 4)) (refused wrongPhase)
     (cond (namesOther (s .lock) w) (refused locked)
-    (cond (namesOther (getD (s .index) (x .key) 0) (x .group)) (ended otherGroup s)
+    (cond (namesOther (entryOf s (x .key)) (x .group)) (ended otherGroup s)
     (goesOn (moved x 5 (x .group) (x .base))
     (withLock (withIndex s (cond (x .put) (set (s .index) (x .key) (x .group + 1)) (s .index))) (w + 1)))))
 
--- 6. "Check (5): ends with 5 exactly if some completed instant of the same group has a timestamp above the base. Else phase 6."
+-- 6: a completed timestamp of the group above the base ends the operation
 unfoldable pub checkConflict : Writer → Shared → Verdict
 checkConflict x s =
     cond (not (eqb (x .phase) 5)) (refused wrongPhase)
-    (cond (ltb (x .base) (newest (s .timeline) (x .group) (s .last))) (ended groupChanged s) (goesOn (moved x 6 (x .group) (x .base)) s))
+    (cond (ltb (x .base) (newestOf s (x .group))) (ended groupChanged s) (goesOn (moved x 6 (x .group) (x .base)) s))
 
--- 7. "Commit (6): the instant becomes completed, phase 0, answer 1."
+-- 7: the instant is completed in the writer's group
 unfoldable pub commit : Writer → Shared → Verdict
 commit x s = cond (not (eqb (x .phase) 6)) (refused wrongPhase) (ended committed (withInstant s (x .ts) (completed (x .group))))
 
--- 8. "Give up (1 to 6): answer 6."
+-- 8: at any phase but 0 a writer may give its operation up
 unfoldable pub abort : Writer → Shared → Verdict
 abort x s = cond (eqb (x .phase) 0) (refused wrongPhase) (ended aborted s)
 
@@ -144,8 +154,7 @@ outcome n x s = record { answer = n; writer = x; shared = s }
 abbrev pub released : ℕ → ℕ → ℕ
 released l w = cond (eqb l (w + 1)) 0 l
 
--- "Whoever ends or commits frees the lock if holding it, goes to phase 0, and keeps no operation, timestamp or base (all 0).
--- Its instant stays as it is for good."
+-- every operation ends here, committed or not: the lock is freed if held, the writer is ready, the instant stays (document 01, A writer's walk, end)
 abbrev pub closed : ℕ → ℕ → Shared → Outcome
 closed n w s = outcome n ready (withLock s (released (s .lock) w))
 
@@ -171,13 +180,16 @@ answered n st = record { answer = n; state = st }
 abbrev pub updated : State → ℕ → Outcome → Answered
 updated st w o = answered (o .answer) (record { shared = o .shared; writers = set (st .writers) w (o .writer) })
 
--- one step of a table whose range was tested: "Tested in the order 17, 10, 12, 13, 14, 15, 16; the first that applies is given": 17 and 10 here,
--- the others in the rules
+-- the record of writer w
+abbrev pub writerOf : State → ℕ → Writer
+writerOf st w = getD (st .writers) w ready
+
+-- one step of a table whose range test gave `fine`: 17, then 10, then the rule of the action (document 01, Answer numbers)
 unfoldable pub stepTested : Bool → State → Step → Answered
 stepTested fine st s =
     cond (not fine) (answered outOfRange st)
     (cond (leb writers (s .writer)) (answered noWriter st)
-    (updated st (s .writer) (act (getD (st .writers) (s .writer) ready) (s .writer) (st .shared) (s .action))))
+    (updated st (s .writer) (act (writerOf st (s .writer)) (s .writer) (st .shared) (s .action))))
 
 -- one step
 unfoldable pub step : State → Step → Answered

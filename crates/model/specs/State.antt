@@ -1,4 +1,4 @@
--- A table with its rows as one value, document 01, "What the engine holds".
+-- A table with its rows as one value (document 01, What the engine holds).
 use Prim.Native.Nat.{ℕ, zero, suc, _+_, _-_, _*_}
 use mathlib.Core.Bool.{Bool, false, cond, _&&_}
 use mathlib.Core.List.{List}
@@ -22,31 +22,32 @@ pub record State : Type 0 where
   pub shared : Shared
   pub writers : List Writer
 
--- the shared part with one field changed, a setter for each field: every change of it goes through these
-abbrev pub withLast : Shared → ℕ → Shared
-withLast s v = record { last = v; lock = s .lock; index = s .index; timeline = s .timeline; present = s .present; values = s .values }
-
-abbrev pub withLock : Shared → ℕ → Shared
-withLock s v = record { last = s .last; lock = v; index = s .index; timeline = s .timeline; present = s .present; values = s .values }
-
-abbrev pub withIndex : Shared → List ℕ → Shared
-withIndex s v = record { last = s .last; lock = s .lock; index = v; timeline = s .timeline; present = s .present; values = s .values }
-
-abbrev pub withTimeline : Shared → List ℕ → Shared
-withTimeline s v = record { last = s .last; lock = s .lock; index = s .index; timeline = v; present = s .present; values = s .values }
-
-abbrev pub withPresent : Shared → List Bool → Shared
-withPresent s v = record { last = s .last; lock = s .lock; index = s .index; timeline = s .timeline; present = v; values = s .values }
-
-abbrev pub withValues : Shared → List ℕ → Shared
-withValues s v = record { last = s .last; lock = s .lock; index = s .index; timeline = s .timeline; present = s .present; values = v }
-
 -- the state of a table and its rows
 abbrev pub stateOf : Table → List Bool → List ℕ → State
 stateOf t present values =
     record {
       shared = record { last = t .last; lock = t .lock; index = t .index; timeline = t .timeline; present = present; values = values };
       writers = t .writers;
+    }
+
+-- a ready writer has no operation, no timestamp and no base (document 01, A writer's walk, end)
+abbrev pub ready : Writer
+ready = record { phase = 0; put = false; key = 0; group = 0; ts = 0; base = 0; value = 0 }
+
+-- a fresh table: nothing issued, indexed or locked, and all writers ready (document 01, What the engine holds); no row is present, each value is 0
+unfoldable pub fresh : State
+fresh =
+    record {
+      shared =
+          record {
+            last = 0;
+            lock = 0;
+            index = replicate keys 0;
+            timeline = replicate timestamps 0;
+            present = replicate rows false;
+            values = replicate rows 0;
+          };
+      writers = replicate writers ready;
     }
 
 -- an instant is one number: 0 none, 1 requested, then inflight in each file group, then completed in each
@@ -76,22 +77,21 @@ rowIn absent rows g n k = cond (eqb n 0) absent (getD rows (rowAt g n k) absent)
 unfoldable pub cell : List Bool → List ℕ → ℕ → ℕ → ℕ → Option ℕ
 cell present values g n k = cond (ltb g groups && (ltb k keys && rowIn false present g n k)) (some (rowIn 0 values g n k)) none
 
--- "all writers ready": a ready writer keeps no operation, timestamp or base
-abbrev pub ready : Writer
-ready = record { phase = 0; put = false; key = 0; group = 0; ts = 0; base = 0; value = 0 }
+-- the shared part with one field changed, a setter for each field: every change of it goes through these
+abbrev pub withLast : Shared → ℕ → Shared
+withLast s v = record { last = v; lock = s .lock; index = s .index; timeline = s .timeline; present = s .present; values = s .values }
 
--- "A fresh table has no instants, no index entries, a free lock, all writers ready"; its rows are absent, with value 0
-unfoldable pub fresh : State
-fresh =
-    record {
-      shared =
-          record {
-            last = 0;
-            lock = 0;
-            index = replicate keys 0;
-            timeline = replicate timestamps 0;
-            present = replicate rows false;
-            values = replicate rows 0;
-          };
-      writers = replicate writers ready;
-    }
+abbrev pub withLock : Shared → ℕ → Shared
+withLock s v = record { last = s .last; lock = v; index = s .index; timeline = s .timeline; present = s .present; values = s .values }
+
+abbrev pub withIndex : Shared → List ℕ → Shared
+withIndex s v = record { last = s .last; lock = s .lock; index = v; timeline = s .timeline; present = s .present; values = s .values }
+
+abbrev pub withTimeline : Shared → List ℕ → Shared
+withTimeline s v = record { last = s .last; lock = s .lock; index = s .index; timeline = v; present = s .present; values = s .values }
+
+abbrev pub withPresent : Shared → List Bool → Shared
+withPresent s v = record { last = s .last; lock = s .lock; index = s .index; timeline = s .timeline; present = v; values = s .values }
+
+abbrev pub withValues : Shared → List ℕ → Shared
+withValues s v = record { last = s .last; lock = s .lock; index = s .index; timeline = s .timeline; present = s .present; values = v }

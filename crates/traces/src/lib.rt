@@ -1,1 +1,1 @@
-// No code: specs/Traces.antt proves document 01's traces marked P from the definitions.
+// No code: specs/Traces.antt is a table of what the definitions give, proved from them.
