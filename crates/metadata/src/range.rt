@@ -4,10 +4,11 @@ ghost use mathlib.Core.Bool.{Bool};
 ghost use mathlib.Core.List.{List};
 ghost use Prim.Native.Nat.{ℕ, max};
 ghost use lib.ListN.{drop};
-ghost use Rattle.model.specs.State.{Shared, stateOf, withLast, withLock, withIndex, withTimeline};
+ghost use Rattle.model.specs.State.{State, stateOf};
 ghost use Rattle.model.specs.Range.{writerInRange, writersInRange, inRange};
 ghost use Rattle.metadata.specs.Actor.{actorInRange};
 ghost use Rattle.metadata.specs.Largest.{largest};
+ghost use Rattle.metadata.specs.Parts.{withParts};
 use model::Table;
 use model::Writer;
 use model::instants::COMPLETED;
@@ -41,7 +42,7 @@ fn writer_in_range(x: Writer, last: u8) -> bool
     0 < x.ts
 }
 
-// The record of a writer, and the last timestamp.
+// Is the record of a writer in range, and the last timestamp?
 pub fn actor_in_range(last: u8, x: Writer) -> bool
     ensures { λ r. ⌜ r ≡ actorInRange last x ⌝ }
 {
@@ -92,7 +93,7 @@ pub fn parts_in_range<'a>(
     index: &'a [u8; KEYS],
     timeline: &'a [u8; TIMESTAMPS],
 ) -> bool
-    ensures { λ r. ⌜ ((s : Shared) → r ≡ inRange (record { shared = withTimeline (withIndex (withLock (withLast s last) lock) (now (index .entry))) (now (timeline .entry)); writers = writers })) ⌝ }
+    ensures { λ r. ⌜ ((st : State) → r ≡ inRange (withParts st last lock writers (now (index .entry)) (now (timeline .entry)))) ⌝ }
 {
     if last > TIMESTAMPS as u8 {
         return false;

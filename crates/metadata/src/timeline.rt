@@ -1,21 +1,36 @@
 // Searches of the timeline.
 ghost use mathlib.Core.Path.{_≡_};
-ghost use Prim.Native.Nat.{_<_, _≤_};
-ghost use Rattle.model.specs.Limits.{groups, timestamps};
+ghost use Prim.Native.Nat.{min};
 ghost use Rattle.model.specs.State.{newest};
 use model::instants::COMPLETED;
-use model::limits::TIMESTAMPS;
 
-// The largest completed timestamp of a file group at or below `upto`, or 0.
-pub fn newest_of(timeline: &[u8; TIMESTAMPS], group: u8, upto: u8) -> u8
-    requires { ⌜ (group < groups) × (upto ≤ timestamps) ⌝ }
+// A timestamp, or the timeline's end if that is below it: no instant stands above it.
+fn clamped(upto: u8, end: usize) -> u8
+    ensures { λ r. ⌜ r ≡ min upto end ⌝ }
+{
+    if (upto as usize) < end {
+        upto
+    } else {
+        end as u8
+    }
+}
+
+// A byte as a wider number.
+fn wide(x: u8) -> u16
+    ensures { λ r. ⌜ r ≡ x ⌝ }
+{
+    x as u16
+}
+
+// The largest completed timestamp of a file group at or below `upto`, or 0; for a group past the last it is 0, since no instant names one.
+pub fn newest_of(timeline: &[u8], group: u8, upto: u8) -> u8
     ensures { λ r. ⌜ r ≡ newest (now (timeline .entry)) group upto ⌝ }
 {
-    let wanted = COMPLETED + group;
-    let mut ts = upto;
+    let wanted = COMPLETED as u16 + group as u16;
+    let mut ts = clamped(upto, timeline.len());
     while 0 < ts {
         let slot = (ts - 1) as usize;
-        if timeline[slot] == wanted {
+        if wide(timeline[slot]) == wanted {
             return ts;
         }
         ts -= 1;

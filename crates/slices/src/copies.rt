@@ -1,20 +1,24 @@
-// File slices: KEYS rows for each timestamp and file group, in two arrays of the same places, one of bools and one of values.
+// A slice is stored: the rows of its base are copied, or cleared for base 0, and the one of the writer's key is set.
 ghost use mathlib.Core.Path.{_≡_};
 ghost use mathlib.Core.Bool.{false};
 ghost use Prim.Native.Nat.{_<_, _≤_};
 ghost use Rattle.model.specs.Limits.{keys, groups, timestamps};
 ghost use Rattle.model.specs.Rules.{copied, sliced};
+ghost use Rattle.slices.specs.Slices.{namesSlice, rowsStored};
+use crate::places::row_at;
 use model::Value;
+use model::Writer;
 use model::limits::GROUPS;
 use model::limits::KEYS;
 use model::limits::ROWS;
+use model::limits::TIMESTAMPS;
 
 // The rows of the group's slice of `ts` become absent.
 fn clear_present(rows: &mut [bool; ROWS], group: usize, ts: usize)
     requires { ⌜ (group < groups) × ((0 < ts) × (ts ≤ timestamps)) ⌝ }
     ensures { λ _. ⌜ now (rows .exit) ≡ copied false (now (rows .entry)) group 0 ts keys ⌝ }
 {
-    let to = ((ts - 1) * GROUPS + group) * KEYS;
+    let to = row_at(group, ts, 0);
     let mut k: usize = 0;
     while k < KEYS {
         rows[to + k] = false;
@@ -26,7 +30,7 @@ fn clear_values(rows: &mut [Value; ROWS], group: usize, ts: usize)
     requires { ⌜ (group < groups) × ((0 < ts) × (ts ≤ timestamps)) ⌝ }
     ensures { λ _. ⌜ now (rows .exit) ≡ copied 0 (now (rows .entry)) group 0 ts keys ⌝ }
 {
-    let to = ((ts - 1) * GROUPS + group) * KEYS;
+    let to = row_at(group, ts, 0);
     let mut k: usize = 0;
     while k < KEYS {
         rows[to + k] = 0;
@@ -39,8 +43,8 @@ fn copy_present(rows: &mut [bool; ROWS], group: usize, base: usize, ts: usize)
     requires { ⌜ (group < groups) × ((0 < base) × (base ≤ timestamps)) × ((0 < ts) × (ts ≤ timestamps)) ⌝ }
     ensures { λ _. ⌜ now (rows .exit) ≡ copied false (now (rows .entry)) group base ts keys ⌝ }
 {
-    let from = ((base - 1) * GROUPS + group) * KEYS;
-    let to = ((ts - 1) * GROUPS + group) * KEYS;
+    let from = row_at(group, base, 0);
+    let to = row_at(group, ts, 0);
     let mut k: usize = 0;
     while k < KEYS {
         let row = rows[from + k];
@@ -53,8 +57,8 @@ fn copy_values(rows: &mut [Value; ROWS], group: usize, base: usize, ts: usize)
     requires { ⌜ (group < groups) × ((0 < base) × (base ≤ timestamps)) × ((0 < ts) × (ts ≤ timestamps)) ⌝ }
     ensures { λ _. ⌜ now (rows .exit) ≡ copied 0 (now (rows .entry)) group base ts keys ⌝ }
 {
-    let from = ((base - 1) * GROUPS + group) * KEYS;
-    let to = ((ts - 1) * GROUPS + group) * KEYS;
+    let from = row_at(group, base, 0);
+    let to = row_at(group, ts, 0);
     let mut k: usize = 0;
     while k < KEYS {
         let row = rows[from + k];
@@ -64,7 +68,7 @@ fn copy_values(rows: &mut [Value; ROWS], group: usize, base: usize, ts: usize)
 }
 
 // The group's slice of `ts`: the rows of its slice of `base`, none for base 0, with the one of `key` set.
-pub fn slice_present(
+fn slice_present(
     rows: &mut [bool; ROWS],
     group: usize,
     base: usize,
@@ -75,7 +79,7 @@ pub fn slice_present(
     requires { ⌜ (group < groups) × (base ≤ timestamps) × (((0 < ts) × (ts ≤ timestamps)) × (key < keys)) ⌝ }
     ensures { λ _. ⌜ now (rows .exit) ≡ sliced false (now (rows .entry)) group base ts key put ⌝ }
 {
-    let row = ((ts - 1) * GROUPS + group) * KEYS + key;
+    let row = row_at(group, ts, key);
     if base == 0 {
         clear_present(&mut *rows, group, ts);
         rows[row] = put;
@@ -85,8 +89,7 @@ pub fn slice_present(
     rows[row] = put;
 }
 
-// The same for the values.
-pub fn slice_values(
+fn slice_values(
     rows: &mut [Value; ROWS],
     group: usize,
     base: usize,
@@ -97,7 +100,7 @@ pub fn slice_values(
     requires { ⌜ (group < groups) × (base ≤ timestamps) × (((0 < ts) × (ts ≤ timestamps)) × (key < keys)) ⌝ }
     ensures { λ _. ⌜ now (rows .exit) ≡ sliced 0 (now (rows .entry)) group base ts key value ⌝ }
 {
-    let row = ((ts - 1) * GROUPS + group) * KEYS + key;
+    let row = row_at(group, ts, key);
     if base == 0 {
         clear_values(&mut *rows, group, ts);
         rows[row] = value;
@@ -105,4 +108,39 @@ pub fn slice_values(
     }
     copy_values(&mut *rows, group, base, ts);
     rows[row] = value;
+}
+
+// Do a writer's numbers name a slice, its base and a key?
+fn names_slice(x: Writer) -> bool
+    ensures { λ r. ⌜ r ≡ namesSlice x ⌝ }
+{
+    if x.group >= GROUPS as u8 {
+        return false;
+    }
+    if x.base > TIMESTAMPS as u8 {
+        return false;
+    }
+    if x.ts < 1 {
+        return false;
+    }
+    if x.ts > TIMESTAMPS as u8 {
+        return false;
+    }
+    x.key < KEYS as u8
+}
+
+// Stores the slice of a writer's operation: a put makes its key present with its value, a remove absent.
+// Nothing is stored where one of the writer's numbers is out of range.
+pub fn store_slice(present: &mut [bool; ROWS], values: &mut [Value; ROWS], x: Writer)
+    ensures { λ _. ⌜ (now (present .exit) ≡ rowsStored false (now (present .entry)) x (x .put)) × (now (values .exit) ≡ rowsStored 0 (now (values .entry)) x (x .value)) ⌝ }
+{
+    if !names_slice(x) {
+        return;
+    }
+    let group = x.group as usize;
+    let base = x.base as usize;
+    let ts = x.ts as usize;
+    let key = x.key as usize;
+    slice_present(&mut *present, group, base, ts, key, x.put);
+    slice_values(&mut *values, group, base, ts, key, x.value);
 }

@@ -1,10 +1,9 @@
 -- The pass down the timeline that finds the newest slice of each file group: `Passed` is the loop's invariant, with one law for each way round it.
 --     pass-none, pass-open, pass-old, pass-new, pass-end, pass-full    the laws of `Passed`
---     newest-min    no timestamp above the timeline's end counts
 --     instant-slot, instant-above    where an instant stands, and that none stands above the end
 use Prim.Native.Nat.{ℕ, zero, suc, _+_, _-_, _<_, _≤_, min}
 use native.Mathlib.Nat.{eq-zero-or-pos}
-use native.Mathlib.Decide.{ℕ-discrete, decLe}
+use native.Mathlib.Decide.{ℕ-discrete}
 use native.Mathlib.Numerals.{add-one}
 use native.Mathlib.Omega.{arith}
 use mathlib.Core.Logic.{by-cases, ⊎-elim}
@@ -16,6 +15,7 @@ use Rattle.model.specs.Limits.{groups, timestamps}
 use Rattle.model.specs.State.{newest, completed}
 use Rattle.model.specs.Snapshot.{instantOf}
 use Rattle.model.proofs.CompletedInstants.{newest-hit, newest-miss, newest-of}
+use Rattle.metadata.proofs.Newest.{newest-min}
 use Rattle.snapshot.specs.Newest.{Coded, NewestSlices}
 
 module _ (timeline : List ℕ) where
@@ -27,17 +27,8 @@ module _ (timeline : List ℕ) where
   instant-above n l = instant-slot n (omega arith) ∙ List·getD-eq-default timeline 0 {n = n - 1} (omega arith)
 
   module _ (g : ℕ) where
-    above-end : (n : ℕ) → length timeline ≤ n → newest timeline g (suc n) ≡ newest timeline g n
-    above-end n l = let z = List·getD-eq-default timeline 0 {n = n} l in newest-miss timeline g n (λ q. omega arith)
-
-    newest-min : (m n : ℕ) → length timeline ≤ m → newest timeline g n ≡ newest timeline g (min n m)
-    newest-min m zero l = let e : min 0 m ≡ 0 = omega arith in rw e
-    newest-min m (suc n) l =
-        by-cases (decLe (suc n) m) (λ h. let e : min (suc n) m ≡ suc n = omega arith in rw e)
-        (λ h. let e : min n m ≡ min (suc n) m = omega arith in above-end n (omega arith) ∙ newest-min m n l ∙ ap (newest timeline g) e)
-
     newest-within : (n : ℕ) → length timeline ≤ timestamps → newest timeline g n ≤ timestamps
-    newest-within n l = rw (newest-min timestamps n l) (omega (arith, newest-of timeline g (min n timestamps) .below))
+    newest-within n l = rw (newest-min timeline g timestamps n l) (omega (arith, newest-of timeline g (min n timestamps) .below))
 
 -- how many numbers are 0
 abbrev pub zeros : List ℕ → ℕ

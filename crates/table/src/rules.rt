@@ -1,12 +1,14 @@
-// The rules of the eight actions, each on the writer's own record and on what it touches of the shared part; and the one place where an operation ends.
+// The rules of the eight actions, each on the writer's own record and on what it takes of the shared part; and the one place where an
+// operation ends. The numbers are those of document 01, A writer's walk.
 ghost use mathlib.Core.Path.{_≡_};
 ghost use mathlib.Core.Bool.{cond};
-ghost use Prim.Native.Nat.{_+_, _<_, _≤_};
-ghost use Rattle.model.specs.Limits.{writers, keys, groups, timestamps};
+ghost use Prim.Native.Nat.{_+_, _<_};
+ghost use Rattle.model.specs.Limits.{writers, keys, groups};
 ghost use Rattle.model.specs.State.{Shared, withLast, withLock, withIndex, withTimeline, withPresent, withValues};
 ghost use Rattle.model.specs.State as state;
 ghost use Rattle.model.specs.Rules as rules;
-ghost use Rattle.table.specs.Inner.{Bounds, Does, Gives, Closes, lent, reads, both, all, outcomeOf};
+ghost use Rattle.table.specs.Fields.{noField, reading, changing, together, allFields};
+ghost use Rattle.table.specs.Inner.{Bounds, Follows, CarriesOut};
 use common::Word;
 use metadata::newest_of;
 use model::Action;
@@ -32,8 +34,7 @@ use model::limits::GROUPS;
 use model::limits::KEYS;
 use model::limits::ROWS;
 use model::limits::TIMESTAMPS;
-use slices::slice_present;
-use slices::slice_values;
+use slices::store_slice;
 
 // What a rule says of a step: it is refused, or the operation ends, or the writer goes on as the record given.
 pub enum Verdict {
@@ -42,7 +43,7 @@ pub enum Verdict {
     GoesOn(Writer),
 }
 
-// What a step gave: its answer, and the writer's record after it.
+// What an action gave: its answer, and the writer's record after it.
 pub struct Acted {
     pub answer: u8,
     pub writer: Writer,
@@ -63,7 +64,7 @@ pub fn ready() -> Writer
     }
 }
 
-// A writer at its next phase.
+// A writer at its next phase, with a file group and a base.
 fn moved(x: Writer, phase: u8, group: u8, base: u8) -> Writer
     ensures { λ r. ⌜ r ≡ rules.moved x phase group base ⌝ }
 {
@@ -78,6 +79,7 @@ fn moved(x: Writer, phase: u8, group: u8, base: u8) -> Writer
     }
 }
 
+// An operation's key.
 fn key_of(op: Operation) -> Word
     ensures { λ r. ⌜ r ≡ rules.keyOf op ⌝ }
 {
@@ -91,6 +93,7 @@ fn key_of(op: Operation) -> Word
     }
 }
 
+// The file group that a put proposes.
 fn group_of(op: Operation) -> Word
     ensures { λ r. ⌜ r ≡ rules.groupOf op ⌝ }
 {
@@ -104,6 +107,7 @@ fn group_of(op: Operation) -> Word
     }
 }
 
+// A writer that starts an operation under a timestamp.
 fn begin(op: Operation, ts: u8) -> Writer
     requires { ⌜ (rules.keyOf op < keys) × (rules.groupOf op < groups) ⌝ }
     ensures { λ r. ⌜ r ≡ rules.begun op ts ⌝ }
@@ -130,9 +134,9 @@ fn begin(op: Operation, ts: u8) -> Writer
     }
 }
 
-// Start: the next timestamp is issued, its instant requested.
-fn start(x: Writer, w: u8, op: Operation, last: &mut u8, timeline: &mut [u8; TIMESTAMPS]) -> Verdict
-    ensures { λ r. ⌜ Gives x w r (both (lent withLast last) (lent withTimeline timeline)) (λ s. rules.start x s op) ⌝ }
+// 1. Start: the next timestamp is issued, its instant requested.
+fn start(x: Writer, op: Operation, last: &mut u8, timeline: &mut [u8; TIMESTAMPS]) -> Verdict
+    ensures { λ r. ⌜ Follows x r (together (changing withLast last) (changing withTimeline timeline)) (λ s. rules.start x s op) ⌝ }
 {
     let key = key_of(op);
     let group = group_of(op);
@@ -156,10 +160,10 @@ fn start(x: Writer, w: u8, op: Operation, last: &mut u8, timeline: &mut [u8; TIM
     Verdict::GoesOn(begin(op, ts))
 }
 
-// Look up: the file group that the index has for the key, or the one that a put proposes.
-fn look_up(x: Writer, w: u8, index: &[u8; KEYS]) -> Verdict
+// 2. Look up: the file group that the index has for the key, or the one that a put proposes.
+fn look_up(x: Writer, index: &[u8; KEYS]) -> Verdict
     requires { ⌜ Bounds x ⌝ }
-    ensures { λ r. ⌜ Gives x w r (reads withIndex (now (index .entry))) (rules.lookUp x) ⌝ }
+    ensures { λ r. ⌜ Follows x r (reading withIndex (now (index .entry))) (rules.lookUp x) ⌝ }
 {
     if x.phase != 1 {
         return Verdict::Refused(WRONG_PHASE);
@@ -175,10 +179,10 @@ fn look_up(x: Writer, w: u8, index: &[u8; KEYS]) -> Verdict
     Verdict::Ended(NOT_INDEXED)
 }
 
-// Read: the base is the newest slice of the file group, unless that is later than the writer.
-fn read_base(x: Writer, w: u8, last: u8, timeline: &mut [u8; TIMESTAMPS]) -> Verdict
-    requires { ⌜ (last ≤ timestamps) × Bounds x ⌝ }
-    ensures { λ r. ⌜ Gives x w r (both (reads withLast last) (lent withTimeline timeline)) (rules.readBase x) ⌝ }
+// 3. Read: the base is the file group's newest completed timestamp, unless that is above the writer's own; the instant is inflight.
+fn read_base(x: Writer, last: u8, timeline: &mut [u8; TIMESTAMPS]) -> Verdict
+    requires { ⌜ Bounds x ⌝ }
+    ensures { λ r. ⌜ Follows x r (together (reading withLast last) (changing withTimeline timeline)) (rules.readBase x) ⌝ }
 {
     if x.phase != 2 {
         return Verdict::Refused(WRONG_PHASE);
@@ -192,20 +196,15 @@ fn read_base(x: Writer, w: u8, last: u8, timeline: &mut [u8; TIMESTAMPS]) -> Ver
     Verdict::GoesOn(moved(x, 3, x.group, base))
 }
 
-// Write: the slice is stored; no reader sees it yet.
-fn write_slice(x: Writer, w: u8, present: &mut [bool; ROWS], values: &mut [Value; ROWS]) -> Verdict
+// 4. Write: the slice is stored; no reader sees it before the commit.
+fn write_slice(x: Writer, present: &mut [bool; ROWS], values: &mut [Value; ROWS]) -> Verdict
     requires { ⌜ Bounds x ⌝ }
-    ensures { λ r. ⌜ Gives x w r (both (lent withPresent present) (lent withValues values)) (rules.writeSlice x) ⌝ }
+    ensures { λ r. ⌜ Follows x r (together (changing withPresent present) (changing withValues values)) (rules.writeSlice x) ⌝ }
 {
     if x.phase != 3 {
         return Verdict::Refused(WRONG_PHASE);
     }
-    let group = x.group as usize;
-    let base = x.base as usize;
-    let ts = x.ts as usize;
-    let key = x.key as usize;
-    slice_present(&mut *present, group, base, ts, key, x.put);
-    slice_values(&mut *values, group, base, ts, key, x.value);
+    store_slice(&mut *present, &mut *values, x);
     Verdict::GoesOn(moved(x, 4, x.group, x.base))
 }
 
@@ -228,10 +227,10 @@ fn entry_after(put: bool, group: u8, entry: u8) -> u8
     if put { group + 1 } else { entry }
 }
 
-// Index: the lock is taken and a put's key entered, unless the lock or the key is another's.
+// 5. Index: writer w takes the lock and enters a put's key, unless the lock is another writer's or the key another group's.
 fn enter_index(x: Writer, w: u8, lock: &mut u8, index: &mut [u8; KEYS]) -> Verdict
     requires { ⌜ (w < writers) × Bounds x ⌝ }
-    ensures { λ r. ⌜ Gives x w r (both (lent withLock lock) (lent withIndex index)) (rules.enterIndex x w) ⌝ }
+    ensures { λ r. ⌜ Follows x r (together (changing withLock lock) (changing withIndex index)) (rules.enterIndex x w) ⌝ }
 {
     if x.phase != 4 {
         return Verdict::Refused(WRONG_PHASE);
@@ -250,10 +249,9 @@ fn enter_index(x: Writer, w: u8, lock: &mut u8, index: &mut [u8; KEYS]) -> Verdi
     Verdict::GoesOn(moved(x, 5, x.group, x.base))
 }
 
-// Check: nothing was committed in the file group since the base.
-fn check_conflict(x: Writer, w: u8, last: u8, timeline: &[u8; TIMESTAMPS]) -> Verdict
-    requires { ⌜ (last ≤ timestamps) × Bounds x ⌝ }
-    ensures { λ r. ⌜ Gives x w r (both (reads withLast last) (reads withTimeline (now (timeline .entry)))) (rules.checkConflict x) ⌝ }
+// 6. Check: nothing was completed in the file group above the base.
+fn check_conflict(x: Writer, last: u8, timeline: &[u8; TIMESTAMPS]) -> Verdict
+    ensures { λ r. ⌜ Follows x r (together (reading withLast last) (reading withTimeline (now (timeline .entry)))) (rules.checkConflict x) ⌝ }
 {
     if x.phase != 5 {
         return Verdict::Refused(WRONG_PHASE);
@@ -264,10 +262,10 @@ fn check_conflict(x: Writer, w: u8, last: u8, timeline: &[u8; TIMESTAMPS]) -> Ve
     Verdict::GoesOn(moved(x, 6, x.group, x.base))
 }
 
-// Commit: the instant is completed, and readers see its slice.
-fn commit(x: Writer, w: u8, timeline: &mut [u8; TIMESTAMPS]) -> Verdict
+// 7. Commit: the instant is completed, and readers see its slice.
+fn commit(x: Writer, timeline: &mut [u8; TIMESTAMPS]) -> Verdict
     requires { ⌜ Bounds x ⌝ }
-    ensures { λ r. ⌜ Gives x w r (lent withTimeline timeline) (rules.commit x) ⌝ }
+    ensures { λ r. ⌜ Follows x r (changing withTimeline timeline) (rules.commit x) ⌝ }
 {
     if x.phase != 6 {
         return Verdict::Refused(WRONG_PHASE);
@@ -277,9 +275,9 @@ fn commit(x: Writer, w: u8, timeline: &mut [u8; TIMESTAMPS]) -> Verdict
     Verdict::Ended(COMMITTED)
 }
 
-// Abort (document 01's give up): the operation ends at any phase.
-fn abort(x: Writer, w: u8) -> Verdict
-    ensures { λ r. ⌜ ((s : Shared) → Does x w r s s (rules.abort x s)) ⌝ }
+// 8. Abort, document 01's give up: the operation ends at any phase.
+fn abort(x: Writer) -> Verdict
+    ensures { λ r. ⌜ Follows x r noField (rules.abort x) ⌝ }
 {
     if x.phase == 0 {
         return Verdict::Refused(WRONG_PHASE);
@@ -287,8 +285,8 @@ fn abort(x: Writer, w: u8) -> Verdict
     Verdict::Ended(ABORTED)
 }
 
-// The rule of the action of writer w, whose own record is x.
-fn decide(
+// The verdict of the rules on an action of writer w, whose own record is x.
+pub fn decide(
     x: Writer,
     w: u8,
     action: Action,
@@ -299,18 +297,18 @@ fn decide(
     present: &mut [bool; ROWS],
     values: &mut [Value; ROWS],
 ) -> Verdict
-    requires { ⌜ (w < writers) × ((now last ≤ timestamps) × Bounds x) ⌝ }
-    ensures { λ r. ⌜ Gives x w r (all last lock index timeline present values) (λ s. rules.ruled x w s action) ⌝ }
+    requires { ⌜ (w < writers) × Bounds x ⌝ }
+    ensures { λ r. ⌜ Follows x r (allFields last lock index timeline present values) (λ s. rules.ruled x w s action) ⌝ }
 {
     match action {
-        Action::Start(op) => start(x, w, op, &mut *last, &mut *timeline),
-        Action::LookUp => look_up(x, w, &*index),
-        Action::Read => read_base(x, w, *last, &mut *timeline),
-        Action::Write => write_slice(x, w, &mut *present, &mut *values),
+        Action::Start(op) => start(x, op, &mut *last, &mut *timeline),
+        Action::LookUp => look_up(x, &*index),
+        Action::Read => read_base(x, *last, &mut *timeline),
+        Action::Write => write_slice(x, &mut *present, &mut *values),
         Action::Index => enter_index(x, w, &mut *lock, &mut *index),
-        Action::Check => check_conflict(x, w, *last, &*timeline),
-        Action::Commit => commit(x, w, &mut *timeline),
-        Action::Abort => abort(x, w),
+        Action::Check => check_conflict(x, *last, &*timeline),
+        Action::Commit => commit(x, &mut *timeline),
+        Action::Abort => abort(x),
     }
 }
 
@@ -322,10 +320,11 @@ fn released(lock: u8, w: u8) -> u8
     if lock == w + 1 { 0 } else { lock }
 }
 
-// A verdict carried out. Every operation that ends or commits ends here: its writer is ready, and the lock free if the writer held it.
-fn close(v: Verdict, x: Writer, w: u8, lock: &mut u8) -> Acted
+// A verdict carried out for writer w. Every operation that ends or commits closes here: its writer is ready, and the lock free if the writer
+// held it.
+pub fn close(v: Verdict, x: Writer, w: u8, lock: &mut u8) -> Acted
     requires { ⌜ w < writers ⌝ }
-    ensures { λ r. ⌜ ((s : Shared) → Closes x w v (withLock s (now (lock .entry))) r (withLock s (now (lock .exit)))) ⌝ }
+    ensures { λ r. ⌜ ((s : Shared) → CarriesOut x w v (withLock s (now (lock .entry))) r (withLock s (now (lock .exit)))) ⌝ }
 {
     match v {
         Verdict::Refused(n) => Acted {
@@ -345,33 +344,4 @@ fn close(v: Verdict, x: Writer, w: u8, lock: &mut u8) -> Acted
             writer: y,
         },
     }
-}
-
-// The action of writer w, whose own record is x.
-pub fn act(
-    x: Writer,
-    w: u8,
-    action: Action,
-    last: &mut u8,
-    lock: &mut u8,
-    index: &mut [u8; KEYS],
-    timeline: &mut [u8; TIMESTAMPS],
-    present: &mut [bool; ROWS],
-    values: &mut [Value; ROWS],
-) -> Acted
-    requires { ⌜ (w < writers) × ((now last ≤ timestamps) × Bounds x) ⌝ }
-    ensures { λ r. ⌜ ((s : Shared) → outcomeOf r (all last lock index timeline present values .after s) ≡ rules.act x w (all last lock index timeline present values .before s) action) ⌝ }
-{
-    let v = decide(
-        x,
-        w,
-        action,
-        &mut *last,
-        &mut *lock,
-        &mut *index,
-        &mut *timeline,
-        &mut *present,
-        &mut *values,
-    );
-    close(v, x, w, &mut *lock)
 }

@@ -8,8 +8,8 @@ use borrow.Author.Needs.{needs}
 use Rattle.table.proofs.advance.Statement.{statement}
 use Rattle.table.proofs.advance.Tie as tie
 
-in-range-requires : tie.Need-in-range-requires
-in-range-requires c κs = search needs
+parts-in-range-requires : tie.Need-parts-in-range-requires
+parts-in-range-requires c κs = search needs
 
 slot-of-requires : tie.Need-slot-of-requires
 slot-of-requires c κs = search needs
@@ -17,8 +17,8 @@ slot-of-requires c κs = search needs
 mul-x : tie.Need-mul-x
 mul-x c = search needs
 
-element-copy-out-x : tie.Need-element-copy-out-x
-element-copy-out-x c = search needs
+array-copy-out-x : tie.Need-array-copy-out-x
+array-copy-out-x c = search needs
 
 act-requires : tie.Need-act-requires
 act-requires c κs = search needs
@@ -33,16 +33,22 @@ with-parts-requires : tie.Need-with-parts-requires
 with-parts-requires c κs = search needs
 
 returns : tie.Need-returns
-returns c = let st = stateOf (c .before .before .before .before .before .before .before .before .before .before .before .before .before .before .before .args .t1) (now (c .before .before .before .before .before .before .before .before .before .before .before .before .before .before .before .args .present)) (now (c .before .before .before .before .before .before .before .before .before .before .before .before .before .before .before .args .values)) in ap (answered _) (c .with-parts .ensures _ _) ∙ ap (updated st _) (c .before .before .before .act .ensures (st .shared)) ∙ rw (c .before .before .before .before .before .before .before .before .before .before .before .before .before .before .in-range .ensures (now (c .before .before .before .before .before .before .before .before .before .before .before .before .before .before .before .args .present)) (now (c .before .before .before .before .before .before .before .before .before .before .before .before .before .before .before .args .values)), c .before .before .before .before .before .before .before .before .before .before .before .before .before .slot-of .ensures .is) (parts-step st _)
+returns c = let t = c .before .before .before .before .before .before .before .before .before .before .before in
+    let a = c .before .before .before .before .before .before .before .before .before .before .before .before .before .before .before .before .before in
+    let slot = c .before .before .before .before .before .before .before .before .before .before .slot-of .ensures .is in
+    let st = stateOf (a .args .t) (now (a .args .present)) (now (a .args .values)) in
+    ap (answered _) (c .with-parts .ensures _ _)
+    ∙ ap (updated st _) (c .before .before .act .ensures (st .shared))
+    ∙ rw (t .parts-in-range .ensures st, slot) (parts-step st _)
 
 pub advance-spec : {M : Type 1} → statement M
 advance-spec =
     tie.close
     (tie.spec
-    in-range-requires
+    parts-in-range-requires
     slot-of-requires
     mul-x
-    element-copy-out-x
+    array-copy-out-x
     act-requires
     mul-writers
     array-set-from-writers

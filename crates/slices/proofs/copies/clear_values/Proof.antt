@@ -1,30 +1,21 @@
--- `clear_values` meets its contract. The loop's invariant: k rows are stored.
+-- `clear_values` meets its contract. The loop's invariant: the first k rows are cleared. The measure is the number of rows left.
 use Prim.Native.Nat.{_-_}
 use native.Mathlib.Omega.{arith}
 use Rattle.model.specs.Limits.{keys}
 use Rattle.model.specs.Rules.{copied}
-use Rattle.slices.proofs.Rows.{Stored, stored, clear-row}
+use Rattle.slices.proofs.Rows.{Filled, filled, clear-row}
 use borrow.Author.Needs.{needs}
 use Rattle.slices.proofs.copies.clear_values.Statement.{statement}
 use Rattle.slices.proofs.copies.clear_values.Tie as tie
 
 abbrev Inv-loop : tie.InvT-loop
-Inv-loop rows₀ group ts to k₀ rows k = Stored (copied 0 rows₀ group 0 ts) keys rows k
+Inv-loop rows₀ group ts to k₀ rows k = Filled (copied 0 rows₀ group 0 ts) rows k
 
 abbrev μ-loop : tie.MeasureT-loop
 μ-loop rows₀ group ts to k₀ rows k = keys - k
 
-sub-to : tie.Need-sub-to Inv-loop μ-loop
-sub-to c = search needs
-
-mul-to : tie.Need-mul-to Inv-loop μ-loop
-mul-to c = search needs
-
-add-to : tie.Need-add-to Inv-loop μ-loop
-add-to c = search needs
-
-mul-to-2 : tie.Need-mul-to-2 Inv-loop μ-loop
-mul-to-2 c = search needs
+row-at-requires : tie.Need-row-at-requires Inv-loop μ-loop
+row-at-requires c κs = search needs
 
 loop-holds : tie.Need-loop-holds Inv-loop μ-loop
 unfolding copied
@@ -46,10 +37,10 @@ loop-less : tie.Need-loop-less Inv-loop μ-loop
 loop-less c = search needs
 
 loop-again : tie.Need-loop-again Inv-loop μ-loop
-loop-again c = clear-row 0 _ _ _ (c .before .loop .inv) (omega arith)
+loop-again c = clear-row 0 _ _ _ (c .before .before .row-at .ensures) (c .before .loop .inv) (omega arith)
 
 returns : tie.Need-returns Inv-loop μ-loop
-returns c = stored _ _ (c .before .loop .inv) (omega arith)
+returns c = filled _ (c .before .loop .inv) (omega arith)
 
 pub clear-values-spec : {M : Type 1} → statement M
 clear-values-spec =
@@ -57,10 +48,7 @@ clear-values-spec =
     (tie.spec
     Inv-loop
     μ-loop
-    sub-to
-    mul-to
-    add-to
-    mul-to-2
+    row-at-requires
     loop-holds
     add-rows
     mul-rows

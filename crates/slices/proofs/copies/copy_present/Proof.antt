@@ -1,43 +1,25 @@
--- `copy_present` meets its contract. The loop's invariant: k rows are copied.
+-- `copy_present` meets its contract. The loop's invariant: the first k rows are copied. The measure is the number of rows left.
 use Prim.Native.Nat.{_-_}
+use mathlib.Core.Bool.{false}
 use native.Mathlib.Omega.{arith}
 use Rattle.model.specs.Limits.{keys}
 use Rattle.model.specs.Rules.{copied}
-use mathlib.Core.Bool.{false}
-use Rattle.slices.proofs.Rows.{Stored, stored, copy-row}
+use Rattle.slices.proofs.Rows.{Filled, filled, copy-row}
 use borrow.Author.Needs.{needs}
 use Rattle.slices.proofs.copies.copy_present.Statement.{statement}
 use Rattle.slices.proofs.copies.copy_present.Tie as tie
 
 abbrev Inv-loop : tie.InvT-loop
-Inv-loop rows₀ group base ts from to k₀ rows k = Stored (copied false rows₀ group base ts) keys rows k
+Inv-loop rows₀ group base ts from to k₀ rows k = Filled (copied false rows₀ group base ts) rows k
 
 abbrev μ-loop : tie.MeasureT-loop
 μ-loop rows₀ group base ts from to k₀ rows k = keys - k
 
-sub-from : tie.Need-sub-from Inv-loop μ-loop
-sub-from c = search needs
+row-at-requires : tie.Need-row-at-requires Inv-loop μ-loop
+row-at-requires c κs = search needs
 
-mul-from : tie.Need-mul-from Inv-loop μ-loop
-mul-from c = search needs
-
-add-from : tie.Need-add-from Inv-loop μ-loop
-add-from c = search needs
-
-mul-from-2 : tie.Need-mul-from-2 Inv-loop μ-loop
-mul-from-2 c = search needs
-
-sub-to : tie.Need-sub-to Inv-loop μ-loop
-sub-to c = search needs
-
-mul-to : tie.Need-mul-to Inv-loop μ-loop
-mul-to c = search needs
-
-add-to : tie.Need-add-to Inv-loop μ-loop
-add-to c = search needs
-
-mul-to-2 : tie.Need-mul-to-2 Inv-loop μ-loop
-mul-to-2 c = search needs
+row-at-requires-2 : tie.Need-row-at-requires-2 Inv-loop μ-loop
+row-at-requires-2 c κs = search needs
 
 loop-holds : tie.Need-loop-holds Inv-loop μ-loop
 unfolding copied
@@ -62,10 +44,11 @@ loop-less : tie.Need-loop-less Inv-loop μ-loop
 loop-less c = search needs
 
 loop-again : tie.Need-loop-again Inv-loop μ-loop
-loop-again c = copy-row false _ _ _ _ (omega arith) (omega arith) (c .before .before .loop .inv) (omega arith)
+loop-again c = let l = c .before .before in
+    copy-row false _ _ _ (l .before .row-at2 .ensures) _ (l .before .before .row-at .ensures) (omega arith) (omega arith) (l .loop .inv) (omega arith)
 
 returns : tie.Need-returns Inv-loop μ-loop
-returns c = stored _ _ (c .before .loop .inv) (omega arith)
+returns c = filled _ (c .before .loop .inv) (omega arith)
 
 pub copy-present-spec : {M : Type 1} → statement M
 copy-present-spec =
@@ -73,14 +56,8 @@ copy-present-spec =
     (tie.spec
     Inv-loop
     μ-loop
-    sub-from
-    mul-from
-    add-from
-    mul-from-2
-    sub-to
-    mul-to
-    add-to
-    mul-to-2
+    row-at-requires
+    row-at-requires-2
     loop-holds
     add-row
     element-copy-out-row

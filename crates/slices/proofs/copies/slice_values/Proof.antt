@@ -1,23 +1,11 @@
--- `slice_values` meets its contract, by those of its two callees.
+-- `slice_values` meets its contract, by those of its callees.
 use Rattle.model.specs.Rules.{sliced}
 use borrow.Author.Needs.{needs}
 use Rattle.slices.proofs.copies.slice_values.Statement.{statement}
 use Rattle.slices.proofs.copies.slice_values.Tie as tie
 
-sub-row : tie.Need-sub-row
-sub-row c = search needs
-
-mul-row : tie.Need-mul-row
-mul-row c = search needs
-
-add-row : tie.Need-add-row
-add-row c = search needs
-
-mul-row-2 : tie.Need-mul-row-2
-mul-row-2 c = search needs
-
-add-row-2 : tie.Need-add-row-2
-add-row-2 c = search needs
+row-at-requires : tie.Need-row-at-requires
+row-at-requires c κs = search needs
 
 clear-values-requires : tie.Need-clear-values-requires
 clear-values-requires c κs = search needs
@@ -30,7 +18,7 @@ element-write-rows c = search needs
 
 returns : tie.Need-returns
 unfolding sliced
-returns c = rw (c .clear-values .ensures, c .before .before .if1 .taken)
+returns c = rw (c .clear-values .ensures, c .before .before .if1 .taken, c .before .before .before .row-at .ensures)
 
 copy-values-requires : tie.Need-copy-values-requires
 copy-values-requires c κs = search needs
@@ -43,17 +31,13 @@ element-write-rows-2 c = search needs
 
 returns-2 : tie.Need-returns-2
 unfolding sliced
-returns-2 c = rw (c .copy-values .ensures)
+returns-2 c = rw (c .copy-values .ensures, c .before .before .before .row-at .ensures)
 
 pub slice-values-spec : {M : Type 1} → statement M
 slice-values-spec =
     tie.close
     (tie.spec
-    sub-row
-    mul-row
-    add-row
-    mul-row-2
-    add-row-2
+    row-at-requires
     clear-values-requires
     mul-rows
     element-write-rows

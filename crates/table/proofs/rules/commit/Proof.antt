@@ -1,4 +1,4 @@
--- `commit` meets its contract: the tests of the rule have the values that the branches show.
+-- `commit` follows its rule: by the tests of the rule, which have the values that the branches show.
 use borrow.Author.Tests.{eq-eqb, ne-eqb}
 use Rattle.model.specs.Rules.{commit}
 use borrow.Author.Needs.{needs}
@@ -7,7 +7,7 @@ use Rattle.table.proofs.rules.commit.Tie as tie
 
 returns : tie.Need-returns
 unfolding commit
-returns c = λ s. record { same = rw (ne-eqb _ _ (c .if1 .taken)) }
+returns c = λ w s. record { same = rw (ne-eqb _ _ (c .if1 .taken)) }
 
 sub-slot : tie.Need-sub-slot
 sub-slot c = search needs
@@ -23,7 +23,7 @@ element-write-timeline c = search needs
 
 returns-2 : tie.Need-returns-2
 unfolding commit
-returns-2 c = λ s. record { same = rw (eq-eqb _ _ (c .before .before .if1 .left)) }
+returns-2 c = λ w s. record { same = rw (eq-eqb _ _ (c .before .before .if1 .left)) }
 
 pub commit-spec : {M : Type 1} → statement M
 commit-spec =

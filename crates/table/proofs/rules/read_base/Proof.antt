@@ -1,4 +1,4 @@
--- `read_base` meets its contract: the tests of the rule have the values that the branches show.
+-- `read_base` follows its rule: by the tests of the rule, which have the values that the branches show.
 use borrow.Author.Tests.{eq-eqb, ne-eqb, lt-ltb, le-ltb}
 use Rattle.model.specs.Rules.{readBase}
 use borrow.Author.Needs.{needs}
@@ -7,14 +7,15 @@ use Rattle.table.proofs.rules.read_base.Tie as tie
 
 returns : tie.Need-returns
 unfolding readBase
-returns c = λ s. record { same = rw (ne-eqb _ _ (c .if1 .taken)) }
+returns c = λ w s. record { same = rw (ne-eqb _ _ (c .if1 .taken)) }
 
 newest-of-requires : tie.Need-newest-of-requires
 newest-of-requires c κs = search needs
 
 returns-2 : tie.Need-returns-2
 unfolding readBase
-returns-2 c = λ s. record { same = rw (eq-eqb _ _ (c .before .before .before .before .if1 .left), ← c .before .before .newest-of .ensures, lt-ltb _ _ (c .if2 .taken)) }
+returns-2 c = let t = c .before .before in
+    λ w s. record { same = rw (eq-eqb _ _ (t .before .before .before .if1 .left), ← t .newest-of .ensures, lt-ltb _ _ (c .if2 .taken)) }
 
 sub-slot : tie.Need-sub-slot
 sub-slot c = search needs
@@ -33,7 +34,9 @@ moved-requires c κs = search needs
 
 returns-3 : tie.Need-returns-3
 unfolding readBase
-returns-3 c = λ s. record { same = rw (c .moved .ensures, eq-eqb _ _ (c .before .before .before .before .before .before .before .if1 .left), ← c .before .before .before .before .before .newest-of .ensures, le-ltb _ _ (c .before .before .before .if2 .left)) }
+returns-3 c = let t = c .before .before .before .before .before in
+    let i = c .before .before .before in
+    λ w s. record { same = rw (c .moved .ensures, eq-eqb _ _ (t .before .before .before .if1 .left), ← t .newest-of .ensures, le-ltb _ _ (i .if2 .left)) }
 
 pub read-base-spec : {M : Type 1} → statement M
 read-base-spec =

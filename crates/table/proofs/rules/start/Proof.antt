@@ -1,4 +1,4 @@
--- `start` meets its contract: the tests of the rule have the values that the branches show.
+-- `start` follows its rule: by the tests of the rule, which have the values that the branches show.
 use borrow.Author.Tests.{eq-eqb, ne-eqb, le-leb, lt-leb}
 use Rattle.model.specs.Rules.{start}
 use borrow.Author.Needs.{needs}
@@ -16,25 +16,47 @@ cast-if1 c = search needs
 
 returns : tie.Need-returns
 unfolding start
-returns c = λ s. record { same = rw (← c .before .before .key-of .ensures, le-leb _ _ (c .if1 .taken)) }
+returns c = λ w s. record { same = rw (← c .before .before .key-of .ensures, le-leb _ _ (c .if1 .taken)) }
 
 cast-if2 : tie.Need-cast-if2
 cast-if2 c = search needs
 
 returns-2 : tie.Need-returns-2
 unfolding start
-returns-2 c = λ s. record { same = rw (← c .before .before .before .key-of .ensures, lt-leb _ _ (c .before .if1 .left), ← c .before .before .group-of .ensures, le-leb _ _ (c .if2 .taken)) }
+returns-2 c = let t = c .before in
+    λ w s. record { same = rw (← t .before .before .key-of .ensures, lt-leb _ _ (t .if1 .left), ← t .before .group-of .ensures, le-leb _ _ (c .if2 .taken)) }
 
 returns-3 : tie.Need-returns-3
 unfolding start
-returns-3 c = λ s. record { same = rw (← c .before .before .before .before .before .key-of .ensures, lt-leb _ _ (c .before .before .before .if1 .left), ← c .before .before .before .before .group-of .ensures, lt-leb _ _ (c .before .before .if2 .left), ne-eqb _ _ (c .if3 .taken)) }
+returns-3 c = let t = c .before .before in
+    λ w s. record {
+      same =
+          rw (
+            ← t .before .before .before .key-of .ensures,
+            lt-leb _ _ (t .before .if1 .left),
+            ← t .before .before .group-of .ensures,
+            lt-leb _ _ (t .if2 .left),
+            ne-eqb _ _ (c .if3 .taken),
+          );
+    }
 
 cast-if4 : tie.Need-cast-if4
 cast-if4 c = search needs
 
 returns-4 : tie.Need-returns-4
 unfolding start
-returns-4 c = λ s. record { same = rw (← c .before .before .before .before .before .before .before .key-of .ensures, lt-leb _ _ (c .before .before .before .before .before .if1 .left), ← c .before .before .before .before .before .before .group-of .ensures, lt-leb _ _ (c .before .before .before .before .if2 .left), eq-eqb _ _ (c .before .before .if3 .left), le-leb _ _ (c .if4 .taken)) }
+returns-4 c = let t = c .before .before in
+    λ w s. record {
+      same =
+          rw (
+            ← t .before .before .before .before .before .key-of .ensures,
+            lt-leb _ _ (t .before .before .before .if1 .left),
+            ← t .before .before .before .before .group-of .ensures,
+            lt-leb _ _ (t .before .before .if2 .left),
+            eq-eqb _ _ (t .if3 .left),
+            le-leb _ _ (c .if4 .taken),
+          );
+    }
 
 element-write-timeline : tie.Need-element-write-timeline
 element-write-timeline c = search needs
@@ -47,7 +69,19 @@ begin-requires c κs = search needs
 
 returns-5 : tie.Need-returns-5
 unfolding start
-returns-5 c = λ s. record { same = rw (c .begin .ensures, ← c .before .before .before .before .before .before .before .before .key-of .ensures, lt-leb _ _ (c .before .before .before .before .before .before .if1 .left), ← c .before .before .before .before .before .before .before .group-of .ensures, lt-leb _ _ (c .before .before .before .before .before .if2 .left), eq-eqb _ _ (c .before .before .before .if3 .left), lt-leb _ _ (c .before .if4 .left)) }
+returns-5 c = let t = c .before in
+    λ w s. record {
+      same =
+          rw (
+            c .begin .ensures,
+            ← t .before .before .before .before .before .before .before .key-of .ensures,
+            lt-leb _ _ (t .before .before .before .before .before .if1 .left),
+            ← t .before .before .before .before .before .before .group-of .ensures,
+            lt-leb _ _ (t .before .before .before .before .if2 .left),
+            eq-eqb _ _ (t .before .before .if3 .left),
+            lt-leb _ _ (t .if4 .left),
+          );
+    }
 
 pub start-spec : {M : Type 1} → statement M
 start-spec =

@@ -1,49 +1,36 @@
--- `write_slice` meets its contract: the tests of the rule have the values that the branches show.
+-- `write_slice` follows its rule: by the tests of the rule, which have the values that the branches show.
+use mathlib.Core.Bool.{false}
+use mathlib.Core.Path.{_∙_}
 use borrow.Author.Tests.{eq-eqb, ne-eqb}
 use Rattle.model.specs.Rules.{writeSlice}
+use Rattle.table.proofs.Bounds.{slice-stored}
 use borrow.Author.Needs.{needs}
 use Rattle.table.proofs.rules.write_slice.Statement.{statement}
 use Rattle.table.proofs.rules.write_slice.Tie as tie
 
 returns : tie.Need-returns
 unfolding writeSlice
-returns c = λ s. record { same = rw (ne-eqb _ _ (c .if1 .taken)) }
+returns c = λ w s. record { same = rw (ne-eqb _ _ (c .if1 .taken)) }
 
-cast-group : tie.Need-cast-group
-cast-group c = search needs
-
-cast-base : tie.Need-cast-base
-cast-base c = search needs
-
-cast-ts : tie.Need-cast-ts
-cast-ts c = search needs
-
-cast-key : tie.Need-cast-key
-cast-key c = search needs
-
-slice-present-requires : tie.Need-slice-present-requires
-slice-present-requires c κs = search needs
-
-slice-values-requires : tie.Need-slice-values-requires
-slice-values-requires c κs = search needs
+store-slice-requires : tie.Need-store-slice-requires
+store-slice-requires c κs = search needs
 
 moved-requires : tie.Need-moved-requires
 moved-requires c κs = search needs
 
 returns-2 : tie.Need-returns-2
 unfolding writeSlice
-returns-2 c = λ s. record { same = rw (c .moved .ensures, eq-eqb _ _ (c .before .before .before .before .before .before .before .before .before .if1 .left), c .before .before .before .slice-present .ensures, c .before .slice-values .ensures) }
+returns-2 c = let t = c .before in
+    let i = c .before .before .before .before in
+    λ w s. record {
+      same =
+          rw (
+            c .moved .ensures,
+            eq-eqb _ _ (i .if1 .left),
+            t .store-slice .ensures .0 ∙ slice-stored (i .before .before .pre) (i .if1 .left) false _ _,
+            t .store-slice .ensures .1 ∙ slice-stored (i .before .before .pre) (i .if1 .left) 0 _ _,
+          );
+    }
 
 pub write-slice-spec : {M : Type 1} → statement M
-write-slice-spec =
-    tie.close
-    (tie.spec
-    returns
-    cast-group
-    cast-base
-    cast-ts
-    cast-key
-    slice-present-requires
-    slice-values-requires
-    moved-requires
-    returns-2)
+write-slice-spec = tie.close (tie.spec returns store-slice-requires moved-requires returns-2)
