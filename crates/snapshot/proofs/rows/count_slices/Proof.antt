@@ -5,14 +5,14 @@ use mathlib.Core.Path.{_≡_}
 use lib.ListN.{length-replicate}
 use borrow.Author.Needs.{needs}
 use Rattle.model.specs.Limits.{keys, groups}
-use Rattle.snapshot.specs.Rows.{Sized, Counted}
+use Rattle.snapshot.specs.Inner.{ForKeys, Counted}
 use Rattle.snapshot.proofs.Counting.{counted-none, counted-skip, counted-next, counted-le}
 use Rattle.snapshot.proofs.rows.count_slices.Statement.{statement}
 use Rattle.snapshot.proofs.rows.count_slices.Tie as tie
 
 abbrev Inv-loop : tie.InvT-loop
 Inv-loop present slices counts₀ lowest₀ g₀ counts lowest g =
-    (g ≤ groups) × Sized (record { counts = counts; lowest = lowest }) × Counted slices present g (record { counts = counts; lowest = lowest })
+    (g ≤ groups) × ForKeys counts lowest × Counted slices present g counts lowest
 
 abbrev μ-loop : tie.MeasureT-loop
 μ-loop present slices counts₀ lowest₀ g₀ counts lowest g = groups - g
@@ -59,7 +59,6 @@ loop-again c = (
   c .count-slice .ensures .sized,
   counted-next _ _
       (c .before .before .before .before .before .before .loop .inv .2)
-      (omega arith)
       (c .before .before .before .before .if1 .taken)
       (c .before .before .before .row-at .ensures .0)
       (c .count-slice .ensures),
