@@ -35,7 +35,8 @@ lowest-with {n} {l} h true e =
     record {
       small = omega (arith, h .small);
       below = λ g m q. h .below g (omega arith) (omega arith);
-      here = λ m. by-cases (ℕ-discrete (lowestWith true n l) n) (λ z. rw z e) (λ z. let s : lowestWith true n l ≡ l = omega arith in rw s (h .here (omega arith)));
+      here = λ m.
+          by-cases (ℕ-discrete (lowestWith true n l) n) (λ z. rw z e) (λ z. let s : lowestWith true n l ≡ l = omega arith in rw s (h .here (omega arith)));
     }
 lowest-with {n} {l} h false e =
     let s : lowestWith false n l ≡ l = omega (arith, h .small) in

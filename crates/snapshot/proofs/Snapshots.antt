@@ -59,7 +59,8 @@ module _ (st : State) (t : ℕ) {slices : List ℕ} (h : NewestSlices (st .share
   unfolding pointRead
   read-found r k l = rw (r, lt-leb keys k l) (ap firstOf (key-same k))
 
-  module _ {shown : Shown} {count : ℕ} (c : Counted slices present groups (shown .counts) (shown .lowest)) (e : count ≡ sum keys (λ k. getD (shown .counts) k 0)) where
+  module _ {shown : Shown} {count : ℕ} (c : Counted slices present groups (shown .counts) (shown .lowest))
+      (e : count ≡ sum keys (λ k. getD (shown .counts) k 0)) where
     all-counted : count ≡ length (allRows present values (sliceIn slices))
     all-counted = e ∙ counted-all slices present c values
 

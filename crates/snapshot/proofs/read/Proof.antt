@@ -35,9 +35,8 @@ returns-3 : tie.Need-returns-3
 returns-3 c =
     let keyed = c .before .before .before in
     let tested = keyed .before in
-    ap foundNumbers
-    (c .first-row .ensures
-    ∙ read-found _ _ (c .before .newest-of-groups .ensures) (sym (tested .before .in-range .ensures _ _) ∙ not-false _ (tested .if1 .left)) _ (keyed .if2 .left))
+    let fine = sym (tested .before .in-range .ensures _ _) ∙ not-false _ (tested .if1 .left) in
+    ap foundNumbers (c .first-row .ensures ∙ read-found _ _ (c .before .newest-of-groups .ensures) fine _ (keyed .if2 .left))
 
 pub read-spec : {M : Type 1} → statement M
 read-spec = tie.close (tie.spec in-range-requires returns cast-if2 returns-2 newest-of-groups-requires first-row-requires returns-3)

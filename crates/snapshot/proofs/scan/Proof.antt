@@ -44,7 +44,10 @@ store-requires c κs =
     let room = c .before in
     let summed = room .before in
     let counted = summed .before .before in
-    all-fit (stateOf (counted .before .before .before .before .before .before .args .t) _ _) _ (counted .before .newest-of-groups .ensures) (counted .count-slices .ensures) (summed .total .ensures .0) (room .if2 .left)
+    let newest = counted .before in
+    let start = newest .before .before .before .before .before in
+    all-fit (stateOf (start .args .t) _ _) _ (newest .newest-of-groups .ensures) (counted .count-slices .ensures) (summed .total .ensures .0)
+    (room .if2 .left)
 
 same-length : tie.Need-same-length
 same-length c = search needs

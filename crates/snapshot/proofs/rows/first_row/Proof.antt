@@ -21,18 +21,25 @@ array-read-slice : tie.Need-array-read-slice Inv-loop μ-loop
 array-read-slice c = search needs
 
 has-row-requires : tie.Need-has-row-requires Inv-loop μ-loop
-has-row-requires c κs = (omega arith, c .before .before .pre .0 (c .before .loop .group) (c .loop-test .taken), c .before .before .pre .1)
+has-row-requires c κs =
+    let start = c .before .before in
+    (c .loop-test .taken, start .pre .0 (c .before .loop .group) (c .loop-test .taken), start .pre .1)
 
 value-at-requires : tie.Need-value-at-requires Inv-loop μ-loop
 value-at-requires c κs =
-    search-place (c .before .before .before .loop .inv) (c .before .before .before .before .pre .1) (c .before .before .loop-test .taken)
-    (c .before .before .before .before .pre .0) (sym (c .before .has-row .ensures) ∙ c .if1 .taken)
+    let turn = c .before .before in
+    let start = turn .before .before in
+    search-place (turn .before .loop .inv) (start .pre .1) (turn .loop-test .taken) (start .pre .0) (sym (c .before .has-row .ensures) ∙ c .if1 .taken)
 
 cast-t14 : tie.Need-cast-t14 Inv-loop μ-loop
 cast-t14 c = search needs
 
 returns : tie.Need-returns Inv-loop μ-loop
-returns c = rw (c .value-at .ensures) (search-hit (c .before .before .before .before .loop .inv) (c .before .before .before .before .before .pre .1) (c .before .before .before .loop-test .taken) (sym (c .before .before .has-row .ensures) ∙ c .before .if1 .taken))
+returns c =
+    let found = c .before in
+    let turn = found .before .before in
+    rw (c .value-at .ensures)
+    (search-hit (turn .before .loop .inv) (turn .before .before .pre .1) (turn .loop-test .taken) (sym (found .before .has-row .ensures) ∙ found .if1 .taken))
 
 add-group : tie.Need-add-group Inv-loop μ-loop
 add-group c = search needs
@@ -41,7 +48,9 @@ loop-less : tie.Need-loop-less Inv-loop μ-loop
 loop-less c = search needs
 
 loop-again : tie.Need-loop-again Inv-loop μ-loop
-loop-again c = search-miss (c .before .before .before .loop .inv) (c .before .before .before .before .pre .1) (c .before .before .loop-test .taken) (sym (c .before .has-row .ensures) ∙ c .if1 .left)
+loop-again c =
+    let turn = c .before .before in
+    search-miss (turn .before .loop .inv) (turn .before .before .pre .1) (turn .loop-test .taken) (sym (c .before .has-row .ensures) ∙ c .if1 .left)
 
 returns-2 : tie.Need-returns-2 Inv-loop μ-loop
 returns-2 c = search-end (c .before .loop .inv) (omega arith)

@@ -24,7 +24,9 @@ array-read-store-key-2 : tie.Need-array-read-store-key-2 Inv-loop μ-loop
 array-read-store-key-2 c = search needs
 
 store-key-requires : tie.Need-store-key-requires Inv-loop μ-loop
-store-key-requires c κs = all-key _ _ _ (c .before .before .loop .inv) (c .before .before .before .before .before .before .pre) (c .before .loop-test .taken)
+store-key-requires c κs =
+    let turn = c .before in
+    all-key _ _ _ (turn .before .loop .inv) (turn .before .before .before .before .before .pre) (turn .loop-test .taken)
 
 add-k : tie.Need-add-k Inv-loop μ-loop
 add-k c = search needs
@@ -33,7 +35,10 @@ loop-less : tie.Need-loop-less Inv-loop μ-loop
 loop-less c = search needs
 
 loop-again : tie.Need-loop-again Inv-loop μ-loop
-loop-again c = parts.goes-on (c .before .before .before .before .before .loop .inv) (c .before .before .before .before .loop-test .taken) (c .before .before .store-key .ensures)
+loop-again c =
+    let stored = c .before .before in
+    let turn = stored .before .before in
+    parts.goes-on (turn .before .loop .inv) (turn .loop-test .taken) (stored .store-key .ensures)
 
 same-length : tie.Need-same-length Inv-loop μ-loop
 same-length c = parts.same-length (c .before .loop .inv)

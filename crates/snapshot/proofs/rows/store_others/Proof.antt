@@ -11,7 +11,8 @@ use Rattle.snapshot.proofs.rows.store_others.Statement.{statement}
 use Rattle.snapshot.proofs.rows.store_others.Tie as tie
 
 abbrev Inv-loop : tie.InvT-loop
-Inv-loop present values key from count buffer₀ at slices left₀ g₀ next₀ buffer left g next = StoringOthers slices present values key from at buffer₀ buffer left next g
+Inv-loop present values key from count buffer₀ at slices left₀ g₀ next₀ buffer left g next =
+    StoringOthers slices present values key from at buffer₀ buffer left next g
 
 abbrev μ-loop : tie.MeasureT-loop
 μ-loop present values key from count buffer₀ at slices left₀ g₀ next₀ buffer left g next = groups - g
@@ -29,22 +30,35 @@ has-row-requires : tie.Need-has-row-requires Inv-loop μ-loop
 has-row-requires c κs = others-look (c .before .loop .inv) (c .loop-test .taken)
 
 store-row-requires : tie.Need-store-row-requires Inv-loop μ-loop
-store-row-requires c κs = others-ask (c .before .before .before .before .loop .inv) (c .before .before .before .loop-test .taken) (sym (c .before .before .has-row .ensures) ∙ c .before .if1 .taken)
+store-row-requires c κs =
+    let found = c .before in
+    let turn = found .before .before in
+    others-ask (turn .before .loop .inv) (turn .loop-test .taken) (sym (found .before .has-row .ensures) ∙ found .if1 .taken)
 
 sub-left : tie.Need-sub-left Inv-loop μ-loop
 sub-left c = search needs
 
 loop-less : tie.Need-loop-less Inv-loop μ-loop
-loop-less c = let inside = others-inside (c .before .before .before .before .before .before .before .loop .inv) (c .before .before .before .before .before .before .loop-test .taken) in omega arith
+loop-less c =
+    let turn = c .before .before .before .before .before .before in
+    omega (arith, others-inside (turn .before .loop .inv) (turn .loop-test .taken))
 
 loop-again : tie.Need-loop-again Inv-loop μ-loop
-loop-again c = others-row (c .before .before .before .before .before .before .before .loop .inv) (c .before .before .before .before .before .before .loop-test .taken) (sym (c .before .before .before .before .before .has-row .ensures) ∙ c .before .before .before .before .if1 .taken) (c .before .before .store-row .ensures)
+loop-again c =
+    let stored = c .before .before in
+    let found = stored .before .before in
+    let turn = found .before .before in
+    others-row (turn .before .loop .inv) (turn .loop-test .taken) (sym (found .before .has-row .ensures) ∙ found .if1 .taken) (stored .store-row .ensures)
 
 loop-less-2 : tie.Need-loop-less-2 Inv-loop μ-loop
-loop-less-2 c = let inside = others-inside (c .before .before .before .loop .inv) (c .before .before .loop-test .taken) in omega arith
+loop-less-2 c =
+    let turn = c .before .before in
+    omega (arith, others-inside (turn .before .loop .inv) (turn .loop-test .taken))
 
 loop-again-2 : tie.Need-loop-again-2 Inv-loop μ-loop
-loop-again-2 c = others-skip (c .before .before .before .loop .inv) (c .before .before .loop-test .taken) (sym (c .before .has-row .ensures) ∙ c .if1 .left)
+loop-again-2 c =
+    let turn = c .before .before in
+    others-skip (turn .before .loop .inv) (turn .loop-test .taken) (sym (c .before .has-row .ensures) ∙ c .if1 .left)
 
 same-length : tie.Need-same-length Inv-loop μ-loop
 same-length c = parts.same-length (c .before .loop .inv .putting)

@@ -6,9 +6,9 @@ use mathlib.Core.Path.{_≡_, _∙_}
 use mathlib.Core.List.{List, [], _∷_, append-assoc}
 use lib.ListN.{length, set, length-set}
 use lib.Seq.{sets-eq}
+use borrow.Author.Needs.{needs}
 use Rattle.common.specs.Pasting.{pasted}
 use Rattle.model.specs.Snapshot.{row, numbers}
-use borrow.Author.Needs.{needs}
 use Rattle.snapshot.proofs.rows.store_row.Statement.{statement}
 use Rattle.snapshot.proofs.rows.store_row.Tie as tie
 
