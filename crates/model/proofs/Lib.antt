@@ -20,3 +20,4 @@ pub mod StepMoves
 pub mod Listing
 pub mod Isolation
 pub mod Corollaries
+pub mod EnumNumbers

@@ -1,4 +1,5 @@
 pub mod Timeline
+pub mod ShownRows
 pub mod Counting
 pub mod Storing
 pub mod FirstRow

@@ -1,26 +1,28 @@
 -- The parts of a read put together: what the newest slices show is what the definitions list.
 --     in-range-coded    a table in range, as the pass down the timeline asks it
 --     scan-refused, scan-full, scan-done    a scan: out of range, no room, all rows stored
+--     all-fit           what storing the rows asks
 --     read-refused, read-no-key, read-found    a point read
-use Prim.Native.Nat.{ℕ, _*_, _<_, _≤_}
+use Prim.Native.Nat.{ℕ, _+_, _*_, _<_, _≤_}
 use native.Mathlib.Omega.{arith}
 use mathlib.Core.Bool.{Bool, true, false}
 use mathlib.Core.Path.{_≡_, _∙_, ap}
 use mathlib.Core.List.{List}
 use lib.ListN.{getD, length}
 use borrow.Author.Tests.{lt-ltb, le-ltb, le-leb, lt-leb}
+use Rattle.common.specs.Counting.{sum}
+use Rattle.common.specs.Pasting.{pasted}
+use Rattle.common.proofs.ListBelow.{same-below}
 use Rattle.model.specs.Limits.{keys, groups}
 use Rattle.model.specs.Answers.{taken, noKey, outOfRange, noRoom}
 use Rattle.model.specs.State.{State}
 use Rattle.model.specs.Range.{inRange}
-use Rattle.model.specs.Snapshot.{rowsOf, rowsAt, Listed, unlisted, listed, scan, firstOf, pointRead}
+use Rattle.model.specs.Snapshot.{rowsOf, allRows, newestAt, rowsAt, Listed, unlisted, listed, numbers, scan, firstOf, pointRead}
 use Rattle.model.specs.declared.Found.the-variants.{Refused}
-use Rattle.common.proofs.ListBelow.{same-below}
 use Rattle.model.proofs.RangeKept.{ranged}
 use Rattle.snapshot.specs.declared.rows.Shown.{Shown}
-use Rattle.snapshot.specs.Newest.{Coded, NewestSlices}
-use Rattle.snapshot.specs.Rows.{rowsOfKey, allRows, Counted}
-use Rattle.common.specs.Counting.{sum}
+use Rattle.snapshot.specs.Inner.{Coded, NewestSlices, sliceIn, Counted, AllFit}
+use Rattle.snapshot.proofs.ShownRows.{numbers-length}
 use Rattle.snapshot.proofs.Counting.{counted-all}
 
 pub in-range-coded : (st : State) → inRange st ≡ true → Coded (st .shared .timeline)
@@ -46,26 +48,37 @@ module _ (st : State) (t : ℕ) {slices : List ℕ} (h : NewestSlices (st .share
   abbrev values : List ℕ
   values = st .shared .values
 
-  key-same : (k : ℕ) → rowsOfKey slices present values k ≡ rowsOf (st .shared) t k
+  key-same : (k : ℕ) → rowsOf present values (sliceIn slices) k ≡ rowsOf present values (newestAt (st .shared) t) k
   key-same k = same-below groups _ _ (λ g l. rw (h .is g l))
 
-  all-same : allRows slices present values ≡ rowsAt (st .shared) t
+  all-same : allRows present values (sliceIn slices) ≡ rowsAt (st .shared) t
   unfolding rowsAt
   all-same = same-below keys _ _ (λ k l. key-same k)
 
-  pub read-found : inRange st ≡ true → (k : ℕ) → k < keys → firstOf (rowsOfKey slices present values k) ≡ pointRead st t k
+  pub read-found : inRange st ≡ true → (k : ℕ) → k < keys → firstOf (rowsOf present values (sliceIn slices) k) ≡ pointRead st t k
   unfolding pointRead
   read-found r k l = rw (r, lt-leb keys k l) (ap firstOf (key-same k))
 
-  module _ {shown : Shown} {count : ℕ} (c : Counted slices present groups shown) (e : count ≡ sum keys (λ k. getD (shown .counts) k 0)) where
+  module _ {shown : Shown} {count : ℕ} (c : Counted slices present groups (shown .counts) (shown .lowest))
+      (e : count ≡ sum keys (λ k. getD (shown .counts) k 0)) where
+    all-counted : count ≡ length (allRows present values (sliceIn slices))
+    all-counted = e ∙ counted-all slices present c values
+
+    pub all-fit : {room : ℕ} → 3 * count ≤ room → AllFit slices present values shown room
+    all-fit l = record { slice = h .within; counted = c; fits = omega (arith, all-counted) }
+
     counted : count ≡ length (rowsAt (st .shared) t)
-    counted = e ∙ counted-all slices present c values ∙ ap length all-same
+    counted = all-counted ∙ ap length all-same
 
     pub scan-full : inRange st ≡ true → (buffer : List ℕ) → length buffer < 3 * count → unlisted noRoom buffer ≡ scan st t buffer
     unfolding scan
     scan-full r buffer l = rw (r, ← counted, lt-ltb (length buffer) (3 * count) l)
 
-    pub scan-done : {new : List ℕ} → inRange st ≡ true → (buffer : List ℕ) → 3 * count ≤ length buffer → new ≡ listed (allRows slices present values) buffer .buffer
+    pub scan-done : {new : List ℕ} → inRange st ≡ true → (buffer : List ℕ) → 3 * count ≤ length buffer
+        → new ≡ pasted buffer 0 (numbers (allRows present values (sliceIn slices)))
         → _≡_ {A = Listed} (record { answer = taken; count = count; buffer = new }) (scan st t buffer)
-    unfolding scan
-    scan-done r buffer l f = rw (r, f, all-same, counted, le-ltb (length buffer) (3 * length (rowsAt (st .shared) t)) (omega (arith, counted)))
+    unfolding scan pasted
+    scan-done r buffer l f =
+        let rows = rowsAt (st .shared) t in
+        let behind : 0 + length (numbers rows) ≡ 3 * length rows = omega (arith, numbers-length rows) in
+        rw (r, f, all-same, behind, counted, le-ltb (length buffer) (3 * length rows) (omega (arith, counted)))

@@ -1,140 +1,193 @@
--- Rows stored one after the other: `Storing` is the invariant of both loops, over the keys and over the file groups of a key;
--- `StoringKey` adds that the second one ends once all rows of the key are stored.
---     stored-length    a store keeps the buffer's length
---     storing-next, storing-end    the laws of `Storing`; all-none, all-key    its beginning over the keys, and what the second loop asks
---     key-none, key-skip, key-room, key-row, key-end    the laws of `StoringKey`
-use Prim.Native.Nat.{ℕ, suc, _+_, _-_, _*_, _<_, _≤_}
-use native.Mathlib.Decide.{ℕ-discrete}
+-- The rows of a key stored, file group by file group: `StoringOthers` is the loop's invariant, the pieces pasted so far with the rows left to store.
+--     others-begin, others-inside, others-look, others-ask, others-skip, others-row, others-end    its laws
+--     key-none, key-first, key-others, key-end    the rows of a key: none, the first, the others, and all
+--     all-begin, all-key, all-end    the rows of key after key: the room, what each key's rows ask, and what is stored
+use Prim.Native.Nat.{ℕ, _+_, _-_, _*_, _<_, _≤_}
+use native.Mathlib.Decide.{ℕ-discrete, decLt}
 use native.Mathlib.Omega.{arith}
 use mathlib.Core.Bool.{Bool, true, false}
 use mathlib.Core.Logic.{by-cases}
-use mathlib.Core.Path.{_≡_, refl, sym, _∙_, ap}
+use mathlib.Core.Path.{_≡_, sym, _∙_, ap}
 use mathlib.Core.List.{List, [], _∷_, _++_}
-use lib.ListN.{getD, set, length, length-append}
-use lib.Seq.{sets, sets-eq, length-sets}
-use Rattle.model.specs.Limits.{keys, groups}
+use lib.ListN.{getD, length}
 use Rattle.common.specs.Counting.{listBelow}
-use Rattle.model.specs.State.{rowAt}
-use Rattle.model.specs.Snapshot.{Row, row, numbers, listed}
+use Rattle.common.specs.Pasting.{pasted, PastedTo}
 use Rattle.common.proofs.ListBelow.{none-below}
+use Rattle.common.proofs.Lists.{no-length, list-more, length-more, list-rest, list-whole}
+use Rattle.common.proofs.Pasting.{pasted-length}
+use Rattle.common.proofs.Pieces.{none-pasted, both-fit, last-joined}
+use Rattle.common.proofs.PastedParts.{Putting, starts, part-fits, goes-on, ends}
+use Rattle.model.specs.Limits.{keys, groups, timestamps}
+use Rattle.model.specs.State.{rowIn}
+use Rattle.model.specs.Snapshot.{Row, row, shown, rowsOf, allRows, numbers}
 use Rattle.snapshot.specs.declared.rows.Shown.{Shown}
-use Rattle.snapshot.specs.Rows.{shownBy, rowsOfKey, HasRow, Stored, KeyFits, AllFit}
-use Rattle.common.proofs.Lists.{list-more, length-more, list-rest, list-whole}
-use Rattle.snapshot.proofs.Counting.{shown-row, shown-none}
+use Rattle.snapshot.specs.Inner.{Slices, sliceIn, HasPlace, hasRow, rowsFrom, OthersFit, KeyFits, AllFit}
+use Rattle.snapshot.proofs.ShownRows.{shown-place, shown-row, shown-none, key-count, numbers-below, numbers-length}
 
-sets-append : (l : List ℕ) (i : ℕ) (xs ys : List ℕ) → sets l i (xs ++ ys) ≡ sets (sets l i xs) (i + length xs) ys
-sets-append l i [] ys = let e : i + 0 ≡ i = omega arith in rw e
-sets-append l i (x ∷ xs) ys =
-    let e : i + suc (length xs) ≡ suc i + length xs = omega arith in
-    rw e (sets-append (set l i x) (suc i) xs ys)
+-- the row that file group g shows of key k, where it shows one
+abbrev pub rowOf : List ℕ → List ℕ → ℕ → ℕ → Row
+rowOf slices values k g = row k (rowIn 0 values g (getD slices g 0) k) g
 
-numbers-append : (xs ys : List Row) → numbers (xs ++ ys) ≡ numbers xs ++ numbers ys
-unfolding numbers
-numbers-append [] ys = refl
-numbers-append (x ∷ xs) ys = rw (numbers-append xs ys)
+-- the parts of a listing: the numbers of each key's rows, and of a key's row in each file group from `from` on
+abbrev pub keyPart : List ℕ → List Bool → List ℕ → ℕ → List ℕ
+keyPart slices present values k = numbers (rowsOf present values (sliceIn slices) k)
 
-length-numbers : (xs : List Row) → length (numbers xs) ≡ 3 * length xs
-unfolding numbers
-length-numbers [] = refl
-length-numbers (x ∷ xs) = omega (arith, length-numbers xs)
+abbrev pub rowPart : List ℕ → List Bool → List ℕ → ℕ → ℕ → ℕ → List ℕ
+rowPart slices present values k from i = numbers (shown present values (sliceIn slices) k (from + i))
 
--- nothing stored, and one after the other
-stored-none : {rows : List Row} {at : ℕ} {buffer : List ℕ} → rows ≡ [] → Stored rows at buffer buffer at
-unfolding numbers
-stored-none e = record { place = rw e (omega arith); is = rw e }
+-- the rows of key k in the file groups from `from` on and below g are stored, and `left` are left
+pub record StoringOthers (slices : List ℕ) (present : List Bool) (values : List ℕ) (k from at : ℕ) (old new : List ℕ) (left next g : ℕ) : Type 0 where
+  pub slice : Slices slices
+  pub key : k < keys
+  pub within : (from ≤ groups) × (from ≤ g)
+  pub putting : Putting (rowPart slices present values k from) (groups - from) old at new next (g - from)
+  pub rest : length (listBelow (g - from) (rowPart slices present values k from)) + 3 * left
+      ≡ length (listBelow (groups - from) (rowPart slices present values k from))
 
-stored-append : {xs ys : List Row} {at next next′ : ℕ} {old new new′ : List ℕ} → Stored xs at old new next → Stored ys next new new′ next′
-    → Stored (xs ++ ys) at old new′ next′
-stored-append {xs} {ys} {at} {next} {old = old} s t =
-    let z : at + length (numbers xs) ≡ next = omega (arith, length-numbers xs, s .place) in
+pub others-begin : {slices values buffer : List ℕ} {present : List Bool} {k from count at : ℕ}
+    → OthersFit slices present values k from count at (length buffer) → StoringOthers slices present values k from at buffer buffer count at from
+unfolding listBelow
+others-begin {slices} {values} {buffer} {present} {k} {from} {at = at} h =
+    let rows = rowsFrom present values (sliceIn slices) k from in
+    let all = ap length (numbers-below (groups - from) (λ i. shown present values (sliceIn slices) k (from + i))) ∙ numbers-length rows in
+    let none : from - from ≡ 0 = omega arith in
     record {
-      place = omega (arith, length-append xs ys, s .place, t .place);
-      is = t .is ∙ sym (rw (numbers-append xs ys) (sets-append old at (numbers xs) (numbers ys) ∙ rw (z, ← s .is)));
+      slice = h .slice;
+      key = h .key;
+      within = (h .within, omega arith);
+      putting = rw none (starts (rowPart slices present values k from) (groups - from) buffer at (omega (arith, h .all, h .fits, all)));
+      rest = rw none (omega (arith, h .all, all));
     }
 
-pub stored-length : {rows : List Row} {at next : ℕ} {old new : List ℕ} → Stored rows at old new next → length new ≡ length old
-stored-length {rows} {at} {old = old} s = ap length (s .is) ∙ length-sets old at (numbers rows)
+module _ {slices values old new : List ℕ} {present : List Bool} {k from at left next g : ℕ}
+    (s : StoringOthers slices present values k from at old new left next g) where
+  abbrev part : ℕ → List ℕ
+  part = rowPart slices present values k from
 
--- what F gives below i is stored, in a buffer with room for all below n
-pub record Storing (F : ℕ → List Row) (n at : ℕ) (old new : List ℕ) (next i : ℕ) : Type 0 where
-  pub low : i ≤ n
-  pub room : at + 3 * length (listBelow n F) ≤ length old
-  pub stored : Stored (listBelow i F) at old new next
+  pub others-end : left ≡ 0 → PastedTo old at (numbers (rowsFrom present values (sliceIn slices) k from)) next new
+  others-end e =
+      let whole = list-whole (g - from) (groups - from) part (s .putting .upto) (omega (arith, s .rest)) in
+      rw (whole ∙ numbers-below (groups - from) (λ i. shown present values (sliceIn slices) k (from + i))) at (s .putting .put)
 
-module _ {F : ℕ → List Row} {n at next i : ℕ} {old new : List ℕ} (s : Storing F n at old new next i) (l : i < n) where
-  storing-room : next + 3 * length (F i) ≤ length new
-  storing-room =
-      let m = ap length (list-rest (i + 1) n F (omega arith)) ∙ length-append (listBelow (i + 1) F) _ in
-      omega (arith, s .stored .place, s .room, stored-length (s .stored), length-more i F)
+  module _ (l : 0 < left) where
+    turn : g - from < groups - from
+    turn =
+        by-cases (ℕ-discrete (g - from) (groups - from)) (λ e. absurd (omega (arith, rw e at (s .rest)))) (λ d. omega (arith, s .putting .upto))
 
-  pub storing-next : {new′ : List ℕ} {next′ : ℕ} → Stored (F i) next new new′ next′ → Storing F n at old new′ next′ (i + 1)
-  storing-next t =
-      record { low = omega arith; room = s .room; stored = rw (list-more i F) (stored-append (s .stored) t) }
+    pub others-inside : g < groups
+    others-inside = omega (arith, turn, s .within)
 
-pub storing-end : {F : ℕ → List Row} {n next i : ℕ} {old new : List ℕ} → Storing F n 0 old new next i → n ≤ i → new ≡ listed (listBelow n F) old .buffer
-storing-end {F} {n} {i = i} {old} s l =
-    let e : i ≡ n = omega (arith, s .low) in
-    let z : 0 + length (numbers (listBelow n F)) ≡ 3 * length (listBelow n F) = omega (arith, length-numbers (listBelow n F)) in
-    rw e at (s .stored .is) ∙ sets-eq (numbers (listBelow n F)) old 0 (omega (arith, s .room)) ∙ rw z
+    pub others-look : (g < groups) × (getD slices g 0 ≤ timestamps) × (k < keys)
+    others-look = (others-inside, s .slice g others-inside, s .key)
 
--- the rows of key k from the file groups below g are stored; `left` are left
-pub record StoringKey (slices : List ℕ) (present : List Bool) (values : List ℕ) (k at : ℕ) (old new : List ℕ) (left next g : ℕ) : Type 0 where
-  pub storing : Storing (shownBy slices present values k) groups at old new next g
-  pub rest : length (listBelow g (shownBy slices present values k)) + left ≡ length (rowsOfKey slices present values k)
+    here : {rows : List Row} → shown present values (sliceIn slices) k g ≡ rows → part (g - from) ≡ numbers rows
+    here e = let same : from + (g - from) ≡ g = omega (arith, s .within) in rw (same, e)
 
-pub key-none : {slices values buffer : List ℕ} {present : List Bool} {k count lowest at : ℕ}
-    → KeyFits slices present values k count lowest at (length buffer) → StoringKey slices present values k at buffer buffer count at lowest
-key-none {lowest = lowest} h =
-    let z = none-below lowest _ (h .below) in
-    record {
-      storing = record { low = h .small; room = omega (arith, h .all, h .fits); stored = stored-none z };
-      rest = omega (arith, ap length z, h .all);
-    }
+    others-next : {rows : List Row} {new′ : List ℕ} {left′ next′ : ℕ} → shown present values (sliceIn slices) k g ≡ rows → left′ + length rows ≡ left
+        → PastedTo new next (numbers rows) next′ new′ → StoringOthers slices present values k from at old new′ left′ next′ (g + 1)
+    others-next {rows} e m t =
+        let same : g + 1 - from ≡ g - from + 1 = omega (arith, s .within) in
+        record {
+          slice = s .slice;
+          key = s .key;
+          within = omega (arith, s .within);
+          putting = rw same (goes-on (s .putting) turn (rw (here e) t));
+          rest = rw same (omega (arith, s .rest, length-more (g - from) part, ap length (here e), numbers-length rows));
+        }
 
-module _ {slices values old new : List ℕ} {present : List Bool} {k at left next g : ℕ} (s : StoringKey slices present values k at old new left next g) where
-  pub key-inside : 0 < left → g < groups
-  key-inside l =
-      by-cases (ℕ-discrete g groups) (λ e. absurd (omega (arith, rw e at (s .rest)))) (λ d. omega (arith, s .storing .low))
+    pub others-skip : hasRow slices present k g ≡ false → StoringOthers slices present values k from at old new left next (g + 1)
+    unfolding numbers
+    others-skip e = others-next (shown-none slices present values (s .key) others-inside e) (omega arith) (none-pasted new next)
 
-  key-next : {new′ : List ℕ} {left′ next′ : ℕ} {rows : List Row} → 0 < left → shownBy slices present values k g ≡ rows → left′ + length rows ≡ left
-      → Stored rows next new new′ next′ → StoringKey slices present values k at old new′ left′ next′ (g + 1)
-  key-next l e m t =
-      record {
-        storing = storing-next (s .storing) (key-inside l) (rw e t);
-        rest = omega (arith, s .rest, length-more g (shownBy slices present values k), ap length e);
-      }
+    module _ (e : hasRow slices present k g ≡ true) where
+      shown-here : shown present values (sliceIn slices) k g ≡ rowOf slices values k g ∷ []
+      shown-here = shown-row slices present values (s .key) others-inside e
 
-  module _ (l : 0 < left) {b : Bool} (h : HasRow present g (getD slices g 0) k b) where
-    pub key-skip : b ≡ false → StoringKey slices present values k at old new left next (g + 1)
-    key-skip e = key-next l (shown-none h values e) (omega arith) (stored-none refl)
+      pub others-ask : HasPlace g (getD slices g 0) k × (next + 3 ≤ length new)
+      unfolding numbers
+      others-ask = (
+        shown-place slices present values (s .key) others-inside (s .slice) e,
+        omega (arith, part-fits (s .putting) turn, ap length (here shown-here)),
+      )
 
-    module _ (e : b ≡ true) {place : ℕ} (p : place ≡ rowAt g (getD slices g 0) k) where
-      pub key-room : next + 3 ≤ length new
-      key-room = omega (arith, storing-room (s .storing) (key-inside l), ap length (shown-row h values e p))
+      pub others-row : {new′ : List ℕ} {next′ : ℕ} → PastedTo new next (numbers (rowOf slices values k g ∷ [])) next′ new′
+          → StoringOthers slices present values k from at old new′ (left - 1) next′ (g + 1)
+      others-row t = others-next shown-here (omega arith) t
 
-      pub key-row : {new′ : List ℕ} {next′ : ℕ} → Stored (row k (getD values place 0) g ∷ []) next new new′ next′
-          → StoringKey slices present values k at old new′ (left - 1) next′ (g + 1)
-      key-row t = key-next l (shown-row h values e p) (omega arith) t
+-- the rows of a key
+module _ {slices values : List ℕ} {present : List Bool} {k count lowest at room : ℕ} (h : KeyFits slices present values k count lowest at room) where
+  abbrev shows : ℕ → List Row
+  shows = shown present values (sliceIn slices) k
 
-  pub key-end : left ≡ 0 → Stored (rowsOfKey slices present values k) at old new next
-  key-end e = rw (list-whole g groups (shownBy slices present values k) (s .storing .low) (omega (arith, s .rest))) at (s .storing .stored)
+  hidden : listBelow lowest shows ≡ []
+  hidden =
+      none-below lowest shows
+      (λ g l. shown-none slices present values (h .key) (omega (arith, h .low .small)) (h .low .below g l (omega (arith, h .low .small))))
+
+  pub key-none : (buffer : List ℕ) → count ≡ 0 → PastedTo buffer at (keyPart slices present values k) at buffer
+  unfolding numbers
+  key-none buffer e = rw (no-length (rowsOf present values (sliceIn slices) k) (sym (h .all) ∙ e)) (none-pasted buffer at)
+
+  module _ (l : 0 < count) where
+    pub key-inside : lowest < groups
+    key-inside =
+        by-cases (decLt lowest groups) (λ m. m)
+        (λ m. let e : lowest ≡ groups = omega (arith, h .low .small) in absurd (omega (arith, h .all, ap length (rw e at hidden))))
+
+    -- the first row, and the others
+    all-rows : rowsOf present values (sliceIn slices) k ≡ rowOf slices values k lowest ∷ rowsFrom present values (sliceIn slices) k (lowest + 1)
+    all-rows =
+        list-rest (lowest + 1) groups shows (omega (arith, key-inside))
+        ∙ rw (list-more lowest shows, hidden, shown-row slices present values (h .key) key-inside (h .low .here key-inside))
+
+    pub key-first : HasPlace lowest (getD slices lowest 0) k × (at + 3 ≤ room)
+    key-first = (shown-place slices present values (h .key) key-inside (h .slice) (h .low .here key-inside), omega (arith, h .fits))
+
+    module _ (buffer : List ℕ) (size : room ≡ length buffer) {next : ℕ} {new : List ℕ}
+        (first : PastedTo buffer at (numbers (rowOf slices values k lowest ∷ [])) next new) where
+      pub key-others : OthersFit slices present values k (lowest + 1) (count - 1) next (length new)
+      unfolding numbers
+      key-others =
+          let kept = pasted-length buffer at (numbers (rowOf slices values k lowest ∷ [])) (omega (arith, h .fits)) in
+          record {
+            slice = h .slice;
+            key = h .key;
+            within = omega (arith, key-inside);
+            all = omega (arith, h .all, ap length all-rows);
+            fits = rw (first .1, kept) (omega (arith, h .fits, first .0));
+          }
+
+      pub key-end : {last : ℕ} {end : List ℕ} → PastedTo new next (numbers (rowsFrom present values (sliceIn slices) k (lowest + 1))) last end
+          → PastedTo buffer at (keyPart slices present values k) last end
+      unfolding numbers
+      key-end others =
+          let fits : at + length (keyPart slices present values k) ≤ length buffer
+          = omega (arith, h .fits, h .all, numbers-length (rowsOf present values (sliceIn slices) k)) in
+          rw all-rows (last-joined (both-fit (numbers (rowOf slices values k lowest ∷ [])) _ (rw all-rows at fits)) first others)
 
 -- the rows of all keys
-pub all-none : {slices values buffer : List ℕ} {present : List Bool} {shown : Shown} → AllFit slices present values shown (length buffer)
-    → Storing (rowsOfKey slices present values) keys 0 buffer buffer 0 0
-unfolding listBelow
-all-none h = record { low = omega arith; room = omega (arith, h .fits); stored = stored-none refl }
+module _ (slices : List ℕ) (present : List Bool) (values : List ℕ) where
+  all-numbers : listBelow keys (keyPart slices present values) ≡ numbers (allRows present values (sliceIn slices))
+  all-numbers = numbers-below keys (rowsOf present values (sliceIn slices))
 
-module _ {slices values old new : List ℕ} {present : List Bool} {next k : ℕ} (s : Storing (rowsOfKey slices present values) keys 0 old new next k) where
-  pub all-key : {shown : Shown} {room : ℕ} → AllFit slices present values shown room → k < keys
-      → KeyFits slices present values k (getD (shown .counts) k 0) (getD (shown .lowest) k 0) next (length new)
-  all-key h l =
-      let n = h .counted .count values k l in
-      record {
-        slice = h .slice;
-        key = l;
-        all = n;
-        small = h .counted .small k l;
-        below = λ g m. h .counted .below values k g l m (omega (arith, h .counted .small k l));
-        fits = omega (arith, storing-room s l);
-      }
+  pub all-begin : {shown : Shown} {buffer : List ℕ} → AllFit slices present values shown (length buffer)
+      → Putting (keyPart slices present values) keys buffer 0 buffer 0 0
+  all-begin {buffer = buffer} h =
+      starts (keyPart slices present values) keys buffer 0
+      (omega (arith, h .fits, ap length all-numbers, numbers-length (allRows present values (sliceIn slices))))
+
+  module _ {old new : List ℕ} {next k : ℕ} (s : Putting (keyPart slices present values) keys old 0 new next k) where
+    pub all-key : {shown : Shown} {room : ℕ} → AllFit slices present values shown room → k < keys
+        → KeyFits slices present values k (getD (shown .counts) k 0) (getD (shown .lowest) k 0) next (length new)
+    all-key h l =
+        let all = h .counted .count k l ∙ key-count slices present values k l in
+        record {
+          slice = h .slice;
+          key = l;
+          all = all;
+          low = h .counted .low k l;
+          fits = omega (arith, part-fits s l, all, numbers-length (rowsOf present values (sliceIn slices) k));
+        }
+
+    pub all-end : keys ≤ k → new ≡ pasted old 0 (numbers (allRows present values (sliceIn slices)))
+    all-end l = rw all-numbers at (ends s l .1)

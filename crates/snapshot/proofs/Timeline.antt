@@ -16,7 +16,7 @@ use Rattle.model.specs.State.{newest, completed}
 use Rattle.model.specs.Snapshot.{instantOf}
 use Rattle.model.proofs.CompletedInstants.{newest-hit, newest-miss, newest-of}
 use Rattle.metadata.proofs.Newest.{newest-min}
-use Rattle.snapshot.specs.Newest.{Coded, NewestSlices}
+use Rattle.snapshot.specs.Inner.{Coded, NewestSlices}
 
 module _ (timeline : List ℕ) where
   pub instant-slot : (n : ℕ) → 0 < n → instantOf timeline n ≡ getD timeline (n - 1) 0
@@ -73,15 +73,15 @@ pass-none timeline t n l r e =
     }
 
 module _ {timeline : List ℕ} {t missing n : ℕ} {slices : List ℕ} (s : Passed timeline t slices missing n) where
-  ended : ((g : ℕ) → g < groups → getD slices g 0 ≡ newest timeline g t) → NewestSlices timeline t slices
-  ended is = record { is = is; within = λ g l. rw (is g l) (newest-within timeline g t (omega (arith, s .all))) }
+  all-newest : ((g : ℕ) → g < groups → getD slices g 0 ≡ newest timeline g t) → NewestSlices timeline t slices
+  all-newest is = record { is = is; within = λ g l. rw (is g l) (newest-within timeline g t (omega (arith, s .all))) }
 
   pub pass-end : n ≡ 0 → NewestSlices timeline t slices
   unfolding newest
-  pass-end e = ended (λ g l. ⊎-elim (λ z. z ∙ sym (s .left g l z ∙ rw e)) (s .found g l) (eq-zero-or-pos (getD slices g 0)))
+  pass-end e = all-newest (λ g l. ⊎-elim (λ z. z ∙ sym (s .left g l z ∙ rw e)) (s .found g l) (eq-zero-or-pos (getD slices g 0)))
 
   pub pass-full : missing ≡ 0 → NewestSlices timeline t slices
-  pass-full e = ended (λ g l. s .found g l (zeros-none slices g (s .count ∙ e) (omega (arith, s .size))))
+  pass-full e = all-newest (λ g l. s .found g l (zeros-none slices g (s .count ∙ e) (omega (arith, s .size))))
 
   module _ (p : 0 < n) where
     abbrev instant : ℕ

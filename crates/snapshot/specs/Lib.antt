@@ -1,2 +1,1 @@
-pub mod Newest
-pub mod Rows
+pub mod Inner

@@ -7,7 +7,7 @@ ghost use mathlib.Core.Bool.{Bool};
 ghost use mathlib.Core.List.{List};
 ghost use Prim.Native.Nat.{ℕ};
 ghost use Rattle.model.specs.State.{stateOf};
-ghost use Rattle.model.specs.Snapshot.{scan, pointRead, instantOf, instantState, instantAt};
+ghost use Rattle.model.specs.Snapshot.{scan, pointRead, foundNumbers, instantOf, instantState, instantAt, instantNumbers};
 ghost use Rattle.model.specs.Calls.{stateBefore, scanned};
 use common::Word;
 use metadata::in_range;
@@ -64,7 +64,7 @@ pub fn scan(
 
 // The row of a key at a timestamp.
 pub fn read(t: Table, present: &[bool; ROWS], values: &[Value; ROWS], at: u64, key: Word) -> Found
-    ensures { λ r. ⌜ r ≡ pointRead (stateBefore t present values) at key ⌝ }
+    ensures { λ r. ⌜ foundNumbers r ≡ foundNumbers (pointRead (stateBefore t present values) at key) ⌝ }
 {
     if !in_range(t) {
         return Found::Refused(OUT_OF_RANGE);
@@ -109,7 +109,7 @@ fn state_of(instant: u8) -> InstantState
 
 // The state of the instant of a timestamp (document 01's third call).
 pub fn instant(t: Table, at: u64) -> InstantState
-    ensures { λ r. ⌜ ((present : List Bool) (values : List ℕ) → r ≡ instantAt (stateOf t present values) at) ⌝ }
+    ensures { λ r. ⌜ ((present : List Bool) (values : List ℕ) → instantNumbers r ≡ instantNumbers (instantAt (stateOf t present values) at)) ⌝ }
 {
     if !in_range(t) {
         return InstantState::Refused(OUT_OF_RANGE);

@@ -2,7 +2,7 @@
 ghost use mathlib.Core.Path.{_≡_};
 ghost use Prim.Native.Nat.{min};
 ghost use Rattle.model.specs.Limits.{timestamps};
-ghost use Rattle.snapshot.specs.Newest.{Coded, NewestSlices};
+ghost use Rattle.snapshot.specs.Inner.{Coded, NewestSlices};
 use model::instants::COMPLETED;
 use model::limits::GROUPS;
 use model::limits::TIMESTAMPS;

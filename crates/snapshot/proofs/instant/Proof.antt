@@ -1,8 +1,8 @@
 -- `instant` meets its contract: the range test decides, and past it the callees give the definition.
-use mathlib.Core.Path.{sym, _∙_}
+use mathlib.Core.Path.{sym, ap, _∙_}
 use borrow.Author.Needs.{needs}
 use borrow.Author.Tests.{not-true, not-false}
-use Rattle.model.specs.Snapshot.{instantAt}
+use Rattle.model.specs.Snapshot.{instantAt, instantNumbers}
 use Rattle.snapshot.proofs.instant.Statement.{statement}
 use Rattle.snapshot.proofs.instant.Tie as tie
 
@@ -22,9 +22,9 @@ state-of-requires c κs = search needs
 returns-2 : tie.Need-returns-2
 unfolding instantAt
 returns-2 c = λ present values.
-    c .state-of .ensures
-    ∙ rw (sym (c .before .before .before .before .in-range .ensures present values) ∙ not-false _ (c .before .before .before .if1 .left), c .before .instant-of .ensures)
+    let tested = c .before .before .before in
+    let fine = sym (tested .before .in-range .ensures present values) ∙ not-false _ (tested .if1 .left) in
+    ap instantNumbers (c .state-of .ensures) ∙ rw (fine, c .before .instant-of .ensures)
 
 pub instant-spec : {M : Type 1} → statement M
-instant-spec =
-    tie.close (tie.spec in-range-requires returns instant-of-requires state-of-requires returns-2)
+instant-spec = tie.close (tie.spec in-range-requires returns instant-of-requires state-of-requires returns-2)

@@ -13,19 +13,9 @@ returns c = search needs
 
 returns-2 : tie.Need-returns-2
 returns-2 c =
-    let
-    l
-    :
-    length
-    (c .before .before .args .t1)
-    ≡
-    timestamps
-    =
-    search
-    needs
-    in
-    sym
-    (instant-above (c .before .before .args .t1) (c .before .before .args .at) (omega arith))
+    let start = c .before .before in
+    let whole : length (start .args .t1) ≡ timestamps = search needs in
+    sym (instant-above (start .args .t1) (start .args .at) (omega arith))
 
 sub-slot : tie.Need-sub-slot
 sub-slot c = search needs
@@ -34,7 +24,7 @@ array-read-result : tie.Need-array-read-result
 array-read-result c = search needs
 
 returns-3 : tie.Need-returns-3
-returns-3 c = sym (instant-slot (c .before .before .args .t1) (c .before .before .args .at) (omega arith))
+returns-3 c = let start = c .before .before in sym (instant-slot (start .args .t1) (start .args .at) (omega arith))
 
 pub instant-of-spec : {M : Type 1} → statement M
 instant-of-spec = tie.close (tie.spec returns returns-2 sub-slot array-read-result returns-3)

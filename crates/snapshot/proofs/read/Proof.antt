@@ -1,9 +1,10 @@
 -- `read` meets its contract: the first row of the newest slices is that of the definition, by proofs/Snapshots.
 use mathlib.Core.List.{[]}
-use mathlib.Core.Path.{sym, _∙_}
+use mathlib.Core.Path.{sym, ap, _∙_}
 use borrow.Author.Needs.{needs}
 use borrow.Author.Tests.{not-true, not-false}
 use Rattle.model.specs.State.{stateOf}
+use Rattle.model.specs.Snapshot.{foundNumbers}
 use Rattle.snapshot.proofs.Snapshots.{in-range-coded, read-refused, read-no-key, read-found}
 use Rattle.snapshot.proofs.read.Statement.{statement}
 use Rattle.snapshot.proofs.read.Tie as tie
@@ -12,39 +13,30 @@ in-range-requires : tie.Need-in-range-requires
 in-range-requires c κs = search needs
 
 returns : tie.Need-returns
-returns c = read-refused _ _ _ (sym (c .before .in-range .ensures _ _) ∙ not-true _ (c .if1 .taken))
+returns c = ap foundNumbers (read-refused _ _ _ (sym (c .before .in-range .ensures _ _) ∙ not-true _ (c .if1 .taken)))
 
 cast-if2 : tie.Need-cast-if2
 cast-if2 c = search needs
 
 returns-2 : tie.Need-returns-2
-returns-2 c = read-no-key _ _ _ (sym (c .before .before .in-range .ensures _ _) ∙ not-false _ (c .before .if1 .left)) (c .if2 .taken)
+returns-2 c =
+    let tested = c .before in
+    ap foundNumbers (read-no-key _ _ _ (sym (tested .before .in-range .ensures _ _) ∙ not-false _ (tested .if1 .left)) (c .if2 .taken))
 
 newest-of-groups-requires : tie.Need-newest-of-groups-requires
 newest-of-groups-requires c κs =
-    in-range-coded
-    (stateOf (c .before .before .before .before .args .t) [] [])
-    (sym (c .before .before .before .in-range .ensures _ _) ∙ not-false _ (c .before .before .if1 .left))
+    let tested = c .before .before in
+    in-range-coded (stateOf (tested .before .before .args .t) [] []) (sym (tested .before .in-range .ensures _ _) ∙ not-false _ (tested .if1 .left))
 
 first-row-requires : tie.Need-first-row-requires
 first-row-requires c κs = search needs
 
 returns-3 : tie.Need-returns-3
 returns-3 c =
-    c .first-row .ensures
-    ∙ read-found _ _
-    (c .before .newest-of-groups .ensures)
-    (sym (c .before .before .before .before .before .in-range .ensures _ _) ∙ not-false _ (c .before .before .before .before .if1 .left)) _
-    (c .before .before .before .if2 .left)
+    let keyed = c .before .before .before in
+    let tested = keyed .before in
+    let fine = sym (tested .before .in-range .ensures _ _) ∙ not-false _ (tested .if1 .left) in
+    ap foundNumbers (c .first-row .ensures ∙ read-found _ _ (c .before .newest-of-groups .ensures) fine _ (keyed .if2 .left))
 
 pub read-spec : {M : Type 1} → statement M
-read-spec =
-    tie.close
-    (tie.spec
-    in-range-requires
-    returns
-    cast-if2
-    returns-2
-    newest-of-groups-requires
-    first-row-requires
-    returns-3)
+read-spec = tie.close (tie.spec in-range-requires returns cast-if2 returns-2 newest-of-groups-requires first-row-requires returns-3)

@@ -5,8 +5,8 @@ use mathlib.Core.Path.{sym, _∙_}
 use borrow.Author.Needs.{needs}
 use borrow.Author.Tests.{not-true, not-false}
 use Rattle.model.specs.State.{stateOf}
-use Rattle.snapshot.proofs.Counting.{counted-le, all-fit}
-use Rattle.snapshot.proofs.Snapshots.{in-range-coded, scan-refused, scan-full, scan-done}
+use Rattle.snapshot.proofs.Counting.{counted-le}
+use Rattle.snapshot.proofs.Snapshots.{in-range-coded, scan-refused, scan-full, all-fit, scan-done}
 use Rattle.snapshot.proofs.scan.Statement.{statement}
 use Rattle.snapshot.proofs.scan.Tie as tie
 
@@ -18,9 +18,8 @@ returns c = scan-refused _ _ _ (sym (c .before .in-range .ensures _ _) ∙ not-t
 
 newest-of-groups-requires : tie.Need-newest-of-groups-requires
 newest-of-groups-requires c κs =
-    in-range-coded
-    (stateOf (c .before .before .before .before .args .t) [] [])
-    (sym (c .before .before .in-range .ensures _ _) ∙ not-false _ (c .before .if1 .left))
+    let tested = c .before in
+    in-range-coded (stateOf (tested .before .before .before .args .t) [] []) (sym (tested .before .in-range .ensures _ _) ∙ not-false _ (tested .if1 .left))
 
 count-slices-requires : tie.Need-count-slices-requires
 count-slices-requires c κs = search needs
@@ -33,35 +32,35 @@ mul-if2 c = search needs
 
 returns-2 : tie.Need-returns-2
 returns-2 c =
-    scan-full _ _
-    (c .before .before .before .before .newest-of-groups .ensures)
-    (c .before .before .before .count-slices .ensures)
-    (c .before .total .ensures .0)
-    (sym (c .before .before .before .before .before .before .before .in-range .ensures _ _)
-    ∙ not-false _ (c .before .before .before .before .before .before .if1 .left)) _
-    (c .if2 .taken)
+    let summed = c .before in
+    let counted = summed .before .before in
+    let newest = counted .before in
+    let tested = newest .before .before in
+    scan-full _ _ (newest .newest-of-groups .ensures) (counted .count-slices .ensures) (summed .total .ensures .0)
+    (sym (tested .before .in-range .ensures _ _) ∙ not-false _ (tested .if1 .left)) _ (c .if2 .taken)
 
 store-requires : tie.Need-store-requires
 store-requires c κs =
-    all-fit _ _
-    (c .before .before .before .before .count-slices .ensures) _
-    (c .before .before .before .before .before .newest-of-groups .ensures .within)
-    (c .before .before .total .ensures .0)
-    (c .before .if2 .left)
+    let room = c .before in
+    let summed = room .before in
+    let counted = summed .before .before in
+    let newest = counted .before in
+    let start = newest .before .before .before .before .before in
+    all-fit (stateOf (start .args .t) _ _) _ (newest .newest-of-groups .ensures) (counted .count-slices .ensures) (summed .total .ensures .0)
+    (room .if2 .left)
 
 same-length : tie.Need-same-length
 same-length c = search needs
 
 returns-3 : tie.Need-returns-3
 returns-3 c =
-    scan-done _ _
-    (c .before .before .before .before .before .before .before .before .newest-of-groups .ensures)
-    (c .before .before .before .before .before .before .before .count-slices .ensures)
-    (c .before .before .before .before .before .total .ensures .0)
-    (sym (c .before .before .before .before .before .before .before .before .before .before .before .in-range .ensures _ _)
-    ∙ not-false _ (c .before .before .before .before .before .before .before .before .before .before .if1 .left)) _
-    (c .before .before .before .before .if2 .left)
-    (c .before .before .store .ensures)
+    let room = c .before .before .before .before in
+    let summed = room .before in
+    let counted = summed .before .before in
+    let newest = counted .before in
+    let tested = newest .before .before in
+    scan-done _ _ (newest .newest-of-groups .ensures) (counted .count-slices .ensures) (summed .total .ensures .0)
+    (sym (tested .before .in-range .ensures _ _) ∙ not-false _ (tested .if1 .left)) _ (room .if2 .left) (c .before .before .store .ensures)
 
 pub scan-spec : {M : Type 1} → statement M
 scan-spec =

@@ -40,22 +40,32 @@ array-write-slices : tie.Need-array-write-slices Inv-loop μ-loop
 array-write-slices c = pass-group (c .before .before .before .loop .inv) (omega arith)
 
 sub-missing : tie.Need-sub-missing Inv-loop μ-loop
-sub-missing c = pass-missing (c .before .before .before .loop .inv) (omega arith) (c .before .if1 .taken) (c .if2 .taken)
+sub-missing c =
+    let done = c .before in
+    pass-missing (done .before .before .loop .inv) (omega arith) (done .if1 .taken) (c .if2 .taken)
 
 returns : tie.Need-returns Inv-loop μ-loop
-returns c = pass-full (pass-new (c .before .before .before .before .loop .inv) (omega arith) (c .before .before .if1 .taken) (c .before .if2 .taken)) (c .if3 .taken)
+returns c =
+    let first = c .before in
+    let done = first .before in
+    pass-full (pass-new (done .before .before .loop .inv) (omega arith) (done .if1 .taken) (first .if2 .taken)) (c .if3 .taken)
 
 loop-less : tie.Need-loop-less Inv-loop μ-loop
 loop-less c = search needs
 
 loop-again : tie.Need-loop-again Inv-loop μ-loop
-loop-again c = pass-new (c .before .before .before .before .loop .inv) (omega arith) (c .before .before .if1 .taken) (c .before .if2 .taken)
+loop-again c =
+    let first = c .before in
+    let done = first .before in
+    pass-new (done .before .before .loop .inv) (omega arith) (done .if1 .taken) (first .if2 .taken)
 
 loop-less-2 : tie.Need-loop-less-2 Inv-loop μ-loop
 loop-less-2 c = search needs
 
 loop-again-2 : tie.Need-loop-again-2 Inv-loop μ-loop
-loop-again-2 c = pass-old (c .before .before .before .loop .inv) (omega arith) (c .before .if1 .taken) (c .if2 .left)
+loop-again-2 c =
+    let done = c .before in
+    pass-old (done .before .before .loop .inv) (omega arith) (done .if1 .taken) (c .if2 .left)
 
 loop-less-3 : tie.Need-loop-less-3 Inv-loop μ-loop
 loop-less-3 c = search needs

@@ -5,7 +5,7 @@ use mathlib.Core.Bool.{false}
 use lib.ListN.{getD}
 use borrow.Author.Needs.{needs}
 use Rattle.model.specs.Limits.{keys}
-use Rattle.snapshot.specs.Rows.{countWith, lowestWith}
+use Rattle.snapshot.specs.Inner.{countWith, lowestWith}
 use Rattle.common.proofs.Lists.{Changed, change-none, change-next, change-end}
 use Rattle.snapshot.proofs.rows.count_slice.Statement.{statement}
 use Rattle.snapshot.proofs.rows.count_slice.Tie as tie
@@ -35,10 +35,9 @@ element-copy-out-counts c = search needs
 
 add-counts : tie.Need-add-counts Inv-loop μ-loop
 add-counts c =
-    let k = c .before .before .before .before .loop .k in
-    let old = c .before .before .before .before .before .pre .2 k (omega arith) in
-    let same = c .before .before .before .before .loop .inv .0 .same k (omega arith) in
-    record { fits = omega (arith, old, same, c .before .number .ensures .1) }
+    let turn = c .before .before .before .before in
+    let k = turn .loop .k in
+    record { fits = omega (arith, turn .before .pre .2 k (omega arith), turn .loop .inv .0 .same k (omega arith), c .before .number .ensures .1) }
 
 element-write-counts : tie.Need-element-write-counts Inv-loop μ-loop
 element-write-counts c = search needs
@@ -62,19 +61,20 @@ loop-less : tie.Need-loop-less Inv-loop μ-loop
 loop-less c = search needs
 
 loop-again : tie.Need-loop-again Inv-loop μ-loop
-loop-again c = (
-  change-next (c .before .before .before .before .before .before .before .loop .inv .0) _ (omega arith)
-      (rw (c .before .before .before .before .number .ensures .0)),
-  change-next (c .before .before .before .before .before .before .before .loop .inv .1) _ (omega arith)
-      (rw (c .smaller .ensures, c .before .group-if .ensures)),
-)
+loop-again c =
+    let counted = c .before .before .before .before in
+    let turn = counted .before .before .before in (
+      change-next (turn .loop .inv .0) _ (omega arith) (rw (counted .number .ensures .0)),
+      change-next (turn .loop .inv .1) _ (omega arith) (rw (c .smaller .ensures, c .before .group-if .ensures)),
+    )
 
 returns : tie.Need-returns Inv-loop μ-loop
 returns c =
+    let (counts, lowest) = c .before .loop .inv in
     record {
-      count = change-end (c .before .loop .inv .0) (omega arith);
-      low = change-end (c .before .loop .inv .1) (omega arith);
-      sized = record { counts = c .before .loop .inv .0 .size; lowest = c .before .loop .inv .1 .size };
+      count = change-end counts (omega arith);
+      low = change-end lowest (omega arith);
+      sized = record { counts = counts .size; lowest = lowest .size };
     }
 
 pub count-slice-spec : {M : Type 1} → statement M

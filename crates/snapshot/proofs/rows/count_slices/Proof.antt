@@ -5,14 +5,14 @@ use mathlib.Core.Path.{_≡_}
 use lib.ListN.{length-replicate}
 use borrow.Author.Needs.{needs}
 use Rattle.model.specs.Limits.{keys, groups}
-use Rattle.snapshot.specs.Rows.{Sized, Counted}
+use Rattle.snapshot.specs.Inner.{ForKeys, Counted}
 use Rattle.snapshot.proofs.Counting.{counted-none, counted-skip, counted-next, counted-le}
 use Rattle.snapshot.proofs.rows.count_slices.Statement.{statement}
 use Rattle.snapshot.proofs.rows.count_slices.Tie as tie
 
 abbrev Inv-loop : tie.InvT-loop
 Inv-loop present slices counts₀ lowest₀ g₀ counts lowest g =
-    (g ≤ groups) × Sized (record { counts = counts; lowest = lowest }) × Counted slices present g (record { counts = counts; lowest = lowest })
+    (g ≤ groups) × ForKeys counts lowest × Counted slices present g counts lowest
 
 abbrev μ-loop : tie.MeasureT-loop
 μ-loop present slices counts₀ lowest₀ g₀ counts lowest g = groups - g
@@ -40,36 +40,34 @@ cast-count-slice : tie.Need-cast-count-slice Inv-loop μ-loop
 cast-count-slice c = search needs
 
 count-slice-requires : tie.Need-count-slice-requires Inv-loop μ-loop
-count-slice-requires c κs = (
-  c .before .before .before .before .before .loop .inv .1,
-  omega (
-    arith,
-    c .before .before .before .before .before .before .pre (c .before .before .before .before .before .loop .g) (omega arith),
-    c .before .before .row-at .ensures .0,
-  ),
-  counted-le _ _ (c .before .before .before .before .before .loop .inv .2) (c .before .before .before .before .before .loop .inv .0),
-)
+count-slice-requires c κs =
+    let found = c .before .before in
+    let turn = found .before .before .before in (
+      turn .loop .inv .1,
+      omega (arith, turn .before .pre (turn .loop .g) (omega arith), found .row-at .ensures .0),
+      counted-le _ _ (turn .loop .inv .2) (turn .loop .inv .0),
+    )
 
 loop-less : tie.Need-loop-less Inv-loop μ-loop
 loop-less c = search needs
 
 loop-again : tie.Need-loop-again Inv-loop μ-loop
-loop-again c = (
-  omega arith,
-  c .count-slice .ensures .sized,
-  counted-next _ _
-      (c .before .before .before .before .before .before .loop .inv .2)
-      (omega arith)
-      (c .before .before .before .before .if1 .taken)
-      (c .before .before .before .row-at .ensures .0)
-      (c .count-slice .ensures),
-)
+loop-again c =
+    let found = c .before .before .before in
+    let shown = found .before in
+    let turn = shown .before .before in (
+      omega arith,
+      c .count-slice .ensures .sized,
+      counted-next _ _ (turn .loop .inv .2) (shown .if1 .taken) (found .row-at .ensures .0) (c .count-slice .ensures),
+    )
 
 loop-less-2 : tie.Need-loop-less-2 Inv-loop μ-loop
 loop-less-2 c = search needs
 
 loop-again-2 : tie.Need-loop-again-2 Inv-loop μ-loop
-loop-again-2 c = (omega arith, c .before .before .loop .inv .1, counted-skip _ _ (c .before .before .loop .inv .2) (omega arith))
+loop-again-2 c =
+    let turn = c .before .before in
+    (omega arith, turn .loop .inv .1, counted-skip _ _ (turn .loop .inv .2) (omega arith))
 
 returns : tie.Need-returns Inv-loop μ-loop
 returns c = let e : c .before .loop .g ≡ groups = omega arith in rw e at (c .before .loop .inv .2)

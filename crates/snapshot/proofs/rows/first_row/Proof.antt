@@ -1,9 +1,10 @@
 -- `first_row` meets its contract. The loop's invariant is `Searched` of proofs/FirstRow. The measure is the number of groups left.
 use Prim.Native.Nat.{_-_}
 use native.Mathlib.Omega.{arith}
+use mathlib.Core.Path.{sym, _∙_}
 use borrow.Author.Needs.{needs}
 use Rattle.model.specs.Limits.{groups}
-use Rattle.snapshot.proofs.FirstRow.{Searched, search-none, search-hit, search-miss, search-end}
+use Rattle.snapshot.proofs.FirstRow.{Searched, search-none, search-place, search-hit, search-miss, search-end}
 use Rattle.snapshot.proofs.rows.first_row.Statement.{statement}
 use Rattle.snapshot.proofs.rows.first_row.Tie as tie
 
@@ -20,35 +21,25 @@ array-read-slice : tie.Need-array-read-slice Inv-loop μ-loop
 array-read-slice c = search needs
 
 has-row-requires : tie.Need-has-row-requires Inv-loop μ-loop
-has-row-requires c κs = (omega arith, c .before .before .pre .0 (c .before .loop .group) (c .loop-test .taken), c .before .before .pre .1)
+has-row-requires c κs =
+    let start = c .before .before in
+    (c .loop-test .taken, start .pre .0 (c .before .loop .group) (c .loop-test .taken), start .pre .1)
 
-row-at-requires : tie.Need-row-at-requires Inv-loop μ-loop
-row-at-requires c κs = (
-  omega arith,
-  (
-    c .before .has-row .ensures .slice (c .if1 .taken),
-    c .before .before .before .before .pre .0 (c .before .before .before .loop .group) (c .before .before .loop-test .taken),
-  ),
-  c .before .before .before .before .pre .1,
-)
+value-at-requires : tie.Need-value-at-requires Inv-loop μ-loop
+value-at-requires c κs =
+    let turn = c .before .before in
+    let start = turn .before .before in
+    search-place (turn .before .loop .inv) (start .pre .1) (turn .loop-test .taken) (start .pre .0) (sym (c .before .has-row .ensures) ∙ c .if1 .taken)
 
-mul-t14 : tie.Need-mul-t14 Inv-loop μ-loop
-mul-t14 c = search needs
-
-element-copy-out-t17 : tie.Need-element-copy-out-t17 Inv-loop μ-loop
-element-copy-out-t17 c = search needs
-
-cast-t18 : tie.Need-cast-t18 Inv-loop μ-loop
-cast-t18 c = search needs
+cast-t14 : tie.Need-cast-t14 Inv-loop μ-loop
+cast-t14 c = search needs
 
 returns : tie.Need-returns Inv-loop μ-loop
 returns c =
-    search-hit
-    (c .before .before .before .before .before .loop .inv)
-    (c .before .before .before .before .loop-test .taken)
-    (c .before .before .before .has-row .ensures)
-    (c .before .before .if1 .taken)
-    (c .before .row-at .ensures .0)
+    let found = c .before in
+    let turn = found .before .before in
+    rw (c .value-at .ensures)
+    (search-hit (turn .before .loop .inv) (turn .before .before .pre .1) (turn .loop-test .taken) (sym (found .before .has-row .ensures) ∙ found .if1 .taken))
 
 add-group : tie.Need-add-group Inv-loop μ-loop
 add-group c = search needs
@@ -57,7 +48,9 @@ loop-less : tie.Need-loop-less Inv-loop μ-loop
 loop-less c = search needs
 
 loop-again : tie.Need-loop-again Inv-loop μ-loop
-loop-again c = search-miss (c .before .before .before .loop .inv) (c .before .before .loop-test .taken) (c .before .has-row .ensures) (c .if1 .left)
+loop-again c =
+    let turn = c .before .before in
+    search-miss (turn .before .loop .inv) (turn .before .before .pre .1) (turn .loop-test .taken) (sym (c .before .has-row .ensures) ∙ c .if1 .left)
 
 returns-2 : tie.Need-returns-2 Inv-loop μ-loop
 returns-2 c = search-end (c .before .loop .inv) (omega arith)
@@ -71,10 +64,8 @@ first-row-spec =
     loop-holds
     array-read-slice
     has-row-requires
-    row-at-requires
-    mul-t14
-    element-copy-out-t17
-    cast-t18
+    value-at-requires
+    cast-t14
     returns
     add-group
     loop-less

@@ -24,7 +24,7 @@ cast-n : tie.Need-cast-n Inv-loop μ-loop
 cast-n c = search needs
 
 add-n : tie.Need-add-n Inv-loop μ-loop
-add-n c = record { fits = omega (arith, c .before .before .pre (c .before .loop .k) (omega arith), c .before .loop .inv .small) }
+add-n c = let turn = c .before in record { fits = omega (arith, turn .before .pre (turn .loop .k) (omega arith), turn .loop .inv .small) }
 
 add-k : tie.Need-add-k Inv-loop μ-loop
 add-k c = search needs
@@ -33,7 +33,7 @@ loop-less : tie.Need-loop-less Inv-loop μ-loop
 loop-less c = search needs
 
 loop-again : tie.Need-loop-again Inv-loop μ-loop
-loop-again c = sum-next (c .before .loop .inv) (omega arith) (c .before .before .pre (c .before .loop .k) (omega arith))
+loop-again c = let turn = c .before in sum-next (turn .loop .inv) (omega arith) (turn .before .pre (turn .loop .k) (omega arith))
 
 returns : tie.Need-returns Inv-loop μ-loop
 returns c = sum-end (c .before .loop .inv) (omega arith)
