@@ -16,7 +16,8 @@ pub pasted-none : {A : Type 0} (buffer : List A) (at : ℕ) → pasted buffer at
 unfolding pasted
 pasted-none buffer at = rw add-zero (take-append-drop at buffer)
 
-pub pasted-length : {A : Type 0} (buffer : List A) (at : ℕ) (piece : List A) → at + length piece ≤ length buffer → length (pasted buffer at piece) ≡ length buffer
+pub pasted-length : {A : Type 0} (buffer : List A) (at : ℕ) (piece : List A)
+    → at + length piece ≤ length buffer → length (pasted buffer at piece) ≡ length buffer
 unfolding pasted
 pasted-length buffer at piece h = simp (length-append, length-drop) (omega (arith, length-take-le at buffer (omega arith)))
 
