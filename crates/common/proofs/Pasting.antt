@@ -16,7 +16,8 @@ pub pasted-none : {A : Type 0} (buffer : List A) (at : ℕ) → pasted buffer at
 unfolding pasted
 pasted-none buffer at = rw add-zero (take-append-drop at buffer)
 
-pub pasted-length : {A : Type 0} (buffer : List A) (at : ℕ) (piece : List A) → at + length piece ≤ length buffer → length (pasted buffer at piece) ≡ length buffer
+pub pasted-length : {A : Type 0} (buffer : List A) (at : ℕ) (piece : List A)
+    → at + length piece ≤ length buffer → length (pasted buffer at piece) ≡ length buffer
 unfolding pasted
 pasted-length buffer at piece h = simp (length-append, length-drop) (omega (arith, length-take-le at buffer (omega arith)))
 
@@ -31,17 +32,18 @@ module _ {A : Type 0} (buffer : List A) (at : ℕ) (xs ys : List A) (fits : at +
   front-length : length front ≡ next
   front-length = omega (arith, length-append (take at buffer) xs, length-take-le at buffer (omega arith))
 
-  joined : pasted buffer at xs ≡ front ++ drop next buffer
+  by-front : pasted buffer at xs ≡ front ++ drop next buffer
   unfolding pasted
-  joined = sym (append-assoc (take at buffer) xs (drop next buffer))
+  by-front = sym (append-assoc (take at buffer) xs (drop next buffer))
 
   before : take next (pasted buffer at xs) ≡ front
-  before = rw joined (take-at front (drop next buffer) next front-length)
+  before = rw by-front (take-at front (drop next buffer) next front-length)
 
   behind : drop (next + length ys) (pasted buffer at xs) ≡ drop (at + length (xs ++ ys)) buffer
   behind =
       let place : next + length ys ≡ at + length (xs ++ ys) = omega (arith, length-append xs ys) in
-      sym (drop-drop (length ys) next (pasted buffer at xs)) ∙ ap (drop (length ys)) (rw joined (drop-at front (drop next buffer) next front-length)) ∙ drop-drop (length ys) next buffer ∙ ap (λ (n : ℕ). drop n buffer) place
+      sym (drop-drop (length ys) next (pasted buffer at xs)) ∙ ap (drop (length ys)) (rw by-front (drop-at front (drop next buffer) next front-length))
+      ∙ drop-drop (length ys) next buffer ∙ ap (λ (n : ℕ). drop n buffer) place
 
   pub pasted-twice : pasted (pasted buffer at xs) next ys ≡ pasted buffer at (xs ++ ys)
   unfolding pasted

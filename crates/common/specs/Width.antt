@@ -1,4 +1,4 @@
--- The width of a word, document 01, "The step log": every number of a log, and every value of a table, is a number of so many bits.
+-- The width of a word: every number of a log, and every value of a table, has so many bits (document 01, The step log).
 use Prim.Native.Nat.{ℕ, _^_}
 
 abbrev pub width : ℕ

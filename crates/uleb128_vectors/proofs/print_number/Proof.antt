@@ -2,7 +2,7 @@
 use mathlib.Core.Path.{sym}
 use lib.Seq.{length-take-le}
 use borrow.Author.Needs.{needs}
-use Rattle.leb128.proofs.Laws.{stored-within}
+use Rattle.leb128.proofs.Storing.{stored-within}
 use Rattle.uleb128_vectors.proofs.print_number.Statement.{statement}
 use Rattle.uleb128_vectors.proofs.print_number.Tie as tie
 

@@ -2,7 +2,7 @@
 use mathlib.Core.List.{[], _∷_}
 use borrow.Author.Needs.{needs}
 use Rattle.transcript.specs.Text.{newline, space, field}
-use Rattle.common.proofs.Pieces.{Fits, first-fits, rest-fits, joined, one-piece}
+use Rattle.common.proofs.Pieces.{Fits, first-fits, rest-fits, pasted-together, one-piece}
 use Rattle.transcript.proofs.Lines.{row-pieces}
 use Rattle.transcript.proofs.text.put_row.Statement.{statement}
 use Rattle.transcript.proofs.text.put_row.Tie as tie
@@ -26,7 +26,7 @@ same-length c = search needs
 returns : tie.Need-returns
 returns c = let group = c .before .before in let value = group .before .before .before .before in let key = value .before .before .before .before in
     let all = pieces (key .before .before .before) in
-    rw row-pieces (joined all (key .put-field .ensures) (joined (rest-fits all (key .put-field .ensures)) (value .put-field2 .ensures) (rw one-piece (group .put-field3 .ensures))))
+    rw row-pieces (pasted-together all (key .put-field .ensures) (pasted-together (rest-fits all (key .put-field .ensures)) (value .put-field2 .ensures) (rw one-piece (group .put-field3 .ensures))))
 
 pub put-row-spec : {M : Type 1} → statement M
 put-row-spec = tie.close (tie.spec put-field-requires put-field-requires-2 put-field-requires-3 same-length returns)

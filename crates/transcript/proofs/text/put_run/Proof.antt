@@ -4,7 +4,7 @@ use native.Mathlib.Omega.{arith}
 use lib.ListN.{take}
 use borrow.Author.Needs.{needs}
 use Rattle.transcript.specs.Text.{answerLines, stopLine, numberLines}
-use Rattle.common.proofs.Pieces.{Fits, first-fits, rest-fits, joined, one-piece}
+use Rattle.common.proofs.Pieces.{Fits, first-fits, rest-fits, pasted-together, one-piece}
 use Rattle.transcript.proofs.Lines.{run-pieces}
 use Rattle.transcript.proofs.Sizes.{run-most}
 use Rattle.transcript.proofs.text.put_run.Statement.{statement}
@@ -32,7 +32,7 @@ same-length c = search needs
 returns : tie.Need-returns
 returns c = let rows = c .before .before in let stop = rows .before .before .before .before in let answers = stop .before .before .before .before in
     let all = pieces (answers .before .before .before) in
-    rw run-pieces (joined all (answers .put-answers .ensures) (joined (rest-fits all (answers .put-answers .ensures)) (stop .put-stop .ensures) (rw one-piece (rows .put-rows .ensures))))
+    rw run-pieces (pasted-together all (answers .put-answers .ensures) (pasted-together (rest-fits all (answers .put-answers .ensures)) (stop .put-stop .ensures) (rw one-piece (rows .put-rows .ensures))))
 
 pub put-run-spec : {M : Type 1} → statement M
 put-run-spec = tie.close (tie.spec put-answers-requires put-stop-requires put-rows-requires same-length returns)

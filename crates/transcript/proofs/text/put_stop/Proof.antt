@@ -2,7 +2,7 @@
 use mathlib.Core.List.{[], _∷_}
 use borrow.Author.Needs.{needs}
 use Rattle.transcript.specs.Text.{newline, decimal, field, stopWord, atWord}
-use Rattle.common.proofs.Pieces.{Fits, first-fits, rest-fits, joined, one-piece}
+use Rattle.common.proofs.Pieces.{Fits, first-fits, rest-fits, pasted-together, one-piece}
 use Rattle.transcript.proofs.Lines.{stop-pieces}
 use Rattle.transcript.proofs.text.put_stop.Statement.{statement}
 use Rattle.transcript.proofs.text.put_stop.Tie as tie
@@ -37,7 +37,7 @@ returns : tie.Need-returns
 returns c = let offset = c .before .before in let behind = offset .before .before .before .before in let stop = behind .before .before .before .before .before in let word = stop .before .before .before .before in
     let all = pieces (word .before .before .before .before) in
     let rest = rest-fits all (word .put-bytes .ensures) in
-    rw stop-pieces (joined all (word .put-bytes .ensures) (joined rest (stop .put-decimal .ensures) (joined (rest-fits rest (stop .put-decimal .ensures)) (behind .put-bytes2 .ensures) (rw one-piece (offset .put-field .ensures)))))
+    rw stop-pieces (pasted-together all (word .put-bytes .ensures) (pasted-together rest (stop .put-decimal .ensures) (pasted-together (rest-fits rest (stop .put-decimal .ensures)) (behind .put-bytes2 .ensures) (rw one-piece (offset .put-field .ensures)))))
 
 pub put-stop-spec : {M : Type 1} → statement M
 put-stop-spec = tie.close (tie.spec slice-aggregate-put-bytes put-bytes-requires put-decimal-requires slice-aggregate-put-bytes-2 put-bytes-requires-2 put-field-requires same-length returns)
