@@ -1,31 +1,25 @@
-// Runs document 01's traces not marked P and source 002's examples, and prints what they gave.
-mod calls;
-mod cases;
-mod print;
-mod script;
-mod tables;
-mod writing;
-
-use model::Value;
-use model::limits::ROWS;
+// Source 002's examples and document 01's traces, run as logs and step by step.
+mod examples;
+mod traces;
 
 fn main() {
-    let mut present = [false; ROWS];
-    let mut values: [Value; ROWS] = [0; ROWS];
-    cases::two_keys(&mut present, &mut values);
-    cases::one_key(&mut present, &mut values);
-    cases::lost_write(&mut present, &mut values);
-    cases::lost_write_swapped(&mut present, &mut values);
-    cases::two_groups(&mut present, &mut values);
-    cases::lock_held(&mut present, &mut values);
-    cases::out_of_order(&mut present, &mut values);
-    cases::out_of_order_after_read(&mut present, &mut values);
-    let t = cases::out_of_order_two_groups(&mut present, &mut values);
-    calls::reads(t, &mut present, &mut values);
-    calls::starts(&mut present, &mut values);
-    calls::room(&mut present, &mut values);
-    calls::stops(&mut present, &mut values);
-    tables::out_of_range(&mut present, &mut values);
-    tables::unreached(&mut present, &mut values);
-    writing::log_writer();
+    examples::two_keys();
+    examples::one_key();
+    examples::lost_write();
+    examples::lost_write_swapped();
+    examples::two_groups();
+    examples::lock_held();
+    examples::out_of_order();
+    examples::out_of_order_after_read();
+    examples::out_of_order_two_groups();
+    traces::p5();
+    traces::p6();
+    traces::p7();
+    traces::p8();
+    traces::p9();
+    traces::refusals();
+    traces::giving_up();
+    traces::removes();
+    traces::starts();
+    traces::stops();
 }

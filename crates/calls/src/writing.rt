@@ -1,0 +1,66 @@
+// The log writer and the number writer.
+ghost use mathlib.Core.Path.{_≡_};
+ghost use Rattle.steplog.specs.Writing.{logWritten};
+ghost use Rattle.calls.specs.Steps.{putAndLookUp};
+use common::Word;
+use model::Action;
+use model::Operation;
+use model::Step;
+use steplog::Written;
+
+fn put_and_look_up() -> [Step; 2]
+    ensures { λ r. ⌜ r ≡ putAndLookUp ⌝ }
+{
+    let put = Operation::Put {
+        key: 1,
+        value: 300,
+        group: 2,
+    };
+    let start = Step {
+        writer: 0,
+        action: Action::Start(put),
+    };
+    let look_up = Step {
+        writer: 0,
+        action: Action::LookUp,
+    };
+    [start, look_up]
+}
+
+// The log of two steps, written into a buffer from a place on.
+fn write_two(buffer: &mut [u8], at: usize) -> Written
+    ensures { λ r. ⌜ record { answer = r .answer; count = r .count; buffer = now (buffer .exit) } ≡ logWritten putAndLookUp (now (buffer .entry)) at ⌝ }
+{
+    let steps = put_and_look_up();
+    steplog::write_log(&steps, buffer, at)
+}
+
+fn write_printed(label: &[u8], at: usize) {
+    let mut buffer = [255u8; 12];
+    let written = write_two(&mut buffer, at);
+    report::written(label, written.answer, written.count, &buffer);
+}
+
+// Into a buffer of twelve bytes: past its end, where eight bytes don't fit, and where they do.
+pub fn log_writer() {
+    report::title(b"The log writer");
+    write_printed(b"place 13 of 12", 13);
+    write_printed(b"place 6 of 12", 6);
+    write_printed(b"place 3 of 12", 3);
+}
+
+// A number into a buffer; the number writer has no answer number but its size, 0 where the code does not fit.
+fn encode_printed(label: &[u8], number: Word, buffer: &mut [u8]) {
+    let size = leb128::encode(number, buffer);
+    report::written(label, 0, size, buffer);
+}
+
+// Into buffers that have no room for the code, just enough, and more.
+pub fn number_writer() {
+    report::title(b"The number writer");
+    encode_printed(b"0 into 0", 0, &mut [255; 0]);
+    encode_printed(b"300 into 1", 300, &mut [255; 1]);
+    encode_printed(b"300 into 2", 300, &mut [255; 2]);
+    encode_printed(b"4294967295 into 4", u32::MAX, &mut [255; 4]);
+    encode_printed(b"4294967295 into 6", u32::MAX, &mut [255; 6]);
+}

@@ -1,0 +1,50 @@
+-- `shown` is safe and ends: each turn leaves fewer timestamps up to the last.
+use Prim.Native.Nat.{suc, _-_}
+use borrow.Author.Needs.{needs}
+use Rattle.scripts.proofs.script.shown.Statement.{statement}
+use Rattle.scripts.proofs.script.shown.Tie as tie
+
+abbrev Inv-loop : tie.InvT-loop
+Inv-loop t present values first last at₀ at = Unit {0}
+
+abbrev μ-loop : tie.MeasureT-loop
+μ-loop t present values first last at₀ at = suc last - at
+
+loop-holds : tie.Need-loop-holds Inv-loop μ-loop
+loop-holds c = search needs
+
+scan-requires : tie.Need-scan-requires Inv-loop μ-loop
+scan-requires c κs = search needs
+
+instant-requires : tie.Need-instant-requires Inv-loop μ-loop
+instant-requires c κs = search needs
+
+add-at : tie.Need-add-at Inv-loop μ-loop
+add-at c = search needs
+
+loop-less : tie.Need-loop-less Inv-loop μ-loop
+loop-less c = search needs
+
+loop-again : tie.Need-loop-again Inv-loop μ-loop
+loop-again c = search needs
+
+returns : tie.Need-returns Inv-loop μ-loop
+returns c = search needs
+
+returns-2 : tie.Need-returns-2 Inv-loop μ-loop
+returns-2 c = search needs
+
+pub shown-spec : {M : Type 1} → statement M
+shown-spec =
+    tie.close
+    (tie.spec
+    Inv-loop
+    μ-loop
+    loop-holds
+    scan-requires
+    instant-requires
+    add-at
+    loop-less
+    loop-again
+    returns
+    returns-2)

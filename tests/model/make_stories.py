@@ -1,0 +1,539 @@
+#!/usr/bin/env python3
+"""Write what the programs stories, calls and tables have to print.
+
+    python3 tests/model/make_stories.py CRATES
+
+CRATES is the folder of the crates: each program's file ``stdout`` there is
+written anew, always the same. Stories and tables are built here a second
+time, from steps and from the model's own tables, and nothing is taken from
+the programs.
+"""
+
+from __future__ import annotations
+
+import copy
+import sys
+from collections.abc import Iterator, Sequence
+from dataclasses import replace
+from pathlib import Path
+
+from table_model import (
+    GROUPS,
+    KEYS,
+    MAX_NUMBER,
+    MAX_TIMESTAMP,
+    WRITERS,
+    Action,
+    Answer,
+    Instant,
+    Operation,
+    Phase,
+    Put,
+    Remove,
+    State,
+    Step,
+    Table,
+    Writer,
+    encode,
+    encode_number,
+    run_log,
+    write_log,
+)
+
+LOOK_UP, READ, WRITE, INDEX, CHECK, COMMIT, GIVE_UP = Action
+EXAMPLE = bytes.fromhex("00 01 01 AC 02 02 00 03 00 04 00 05 00 06 00 07 00 08")
+NEVER_ISSUED = 2**64 - 1
+
+# A story's pieces: a label, and steps or the bytes of a log.
+Piece = tuple[str, Sequence[Step] | bytes]
+
+
+# --- Steps -------------------------------------------------------------------
+
+
+def steps(writer: int, first: Action, last: Action) -> list[Step]:
+    """A writer's steps from one to another."""
+    return [Step(writer, action) for action in Action if first <= action <= last]
+
+
+def step(writer: int, action: Operation | Action) -> list[Step]:
+    return [Step(writer, action)]
+
+
+def through(writer: int, operation: Operation, last: Action) -> list[Step]:
+    """A writer's steps from the operation's start to one."""
+    return step(writer, operation) + steps(writer, LOOK_UP, last)
+
+
+def whole(writer: int, operation: Operation) -> list[Step]:
+    """All steps of an operation that commits."""
+    return through(writer, operation, COMMIT)
+
+
+def log_of(piece: Sequence[Step] | bytes) -> bytes:
+    return piece if isinstance(piece, bytes) else encode(piece)
+
+
+# --- Printing ----------------------------------------------------------------
+
+
+def numbers(label: str, values: Sequence[int]) -> str:
+    return " ".join([label, *map(str, values)])
+
+
+def listed(values: Sequence[int]) -> str:
+    """Numbers, with a comma behind each row of three but the last."""
+    rows = [values[at : at + 3] for at in range(0, len(values), 3)]
+    return ",".join("".join(f" {number}" for number in row) for row in rows)
+
+
+def ran(
+    table: Table, label: str, log: bytes, places: list[int]
+) -> tuple[list[str], int]:
+    """A run's answers and stop, and its offset. The places are filled."""
+    run = run_log(table, log, len(places))
+    places[: len(run.answers)] = run.answers
+    lines = [numbers(f"{label}:", [int(answer) for answer in run.answers])]
+    return [*lines, f"stop {run.stop:d} at {run.offset}"], run.offset
+
+
+def scan_line(table: Table, at: int) -> str:
+    buffer = [0] * (3 * KEYS)
+    answer, count = table.scan(at, buffer)
+    if answer != Answer.TAKEN:
+        return f"at {at}: refused with {answer:d}"
+    return f"at {at}:{listed(buffer[: 3 * count]) or ' no rows'}"
+
+
+def scan_into(table: Table, at: int, room: int) -> str:
+    buffer = [9] * room
+    answer, count = table.scan(at, buffer)
+    return f"room for {room}: answer {answer:d}, {count} rows:{listed(buffer)}"
+
+
+def instant_line(table: Table, at: int) -> str:
+    instant = table.instant(at)
+    if isinstance(instant, Answer):
+        return f"instant {at}: refused with {instant:d}"
+    group = "" if instant.group is None else f" in group {instant.group}"
+    return f"instant {at}: {instant.state.value}{group}"
+
+
+def point_line(table: Table, at: int, key: int) -> str:
+    found = table.point_read(key, at)
+    if found is None:
+        text = "absent"
+    elif isinstance(found, Answer):
+        text = f"refused with {found:d}"
+    else:
+        text = f"{found.value} in group {found.group}"
+    return f"key {key} at {at}: {text}"
+
+
+def played(table: Table, first: int, last: int, *pieces: Piece) -> Iterator[str]:
+    """A script on a table: the program runs it as logs and step by step, with
+    the same results. After each piece the rows and instants from one timestamp to another.
+    """
+    for once in (True, False):
+        here = copy.deepcopy(table)
+        for label, piece in pieces:
+            yield from ran(here, label, log_of(piece), [0] * (2 * MAX_TIMESTAMP))[0]
+            for at in range(first, last + 1):
+                yield scan_line(here, at)
+                yield instant_line(here, at)
+        if once:
+            yield "-- step by step"
+
+
+def story(title: str, first: int, last: int, *pieces: Piece) -> Iterator[str]:
+    """A script from a fresh table on."""
+    yield f"== {title}"
+    yield from played(Table(), first, last, *pieces)
+
+
+# --- The program stories -----------------------------------------------------
+
+
+def examples() -> Iterator[str]:
+    """Source 002's examples."""
+    a, b, c, x, y = 10, 11, 12, 20, 21
+    for title, second in (
+        ("Case 2: two keys in one file group", Put(2, x, 1)),
+        ("Case 2: one key", Put(1, b, 1)),
+    ):
+        yield from story(
+            title, 1, 2,
+            ("both have read", through(1, Put(1, a, 1), READ) + through(2, second, READ)),
+            ("writer 1 commits", steps(1, WRITE, COMMIT)),
+            ("writer 2's check fails", steps(2, WRITE, CHECK)),
+        )
+    both = [Step(1, Put(1, a, 1)), Step(2, Put(2, x, 1))]
+    both += [Step(w, action) for action in (LOOK_UP, READ, WRITE) for w in (1, 2)]
+    for title, first, second in (
+        ("Case 1's order", 1, 2),
+        ("Case 1's order, commits swapped", 2, 1),
+    ):
+        yield from story(
+            title, 1, 2,
+            ("both have written", both),
+            (f"writer {first} commits", steps(first, INDEX, COMMIT)),
+            (f"writer {second} ends", steps(second, INDEX, COMMIT)),
+        )
+    put_1, put_2 = Put(1, a, 1), Put(1, a, 2)
+    looked_up = through(1, put_1, LOOK_UP) + through(2, put_2, LOOK_UP)
+    yield from story(
+        "Case 3's order: one key, two file groups", 1, 2,
+        ("both have looked up", looked_up),
+        ("writer 1 commits", steps(1, READ, COMMIT)),
+        ("writer 2's index step fails", steps(2, READ, INDEX)),
+    )
+    yield from story(
+        "Case 3's order, lock held", 1, 2,
+        ("writer 1 holds the lock", looked_up + steps(1, READ, INDEX)),
+        ("writer 2 waits", steps(2, READ, INDEX)),
+        ("writer 1 commits", steps(1, CHECK, COMMIT)),
+        ("writer 2's index step fails", step(2, INDEX)),
+    )
+    started = step(2, Put(1, b, 1)) + step(3, Put(1, c, 1))
+    yield from story(
+        "Out of order, one key", 1, 3,
+        ("operation 1 is complete", whole(1, Put(1, a, 1))),
+        ("2 and 3 have timestamps", started),
+        ("operation 3 is complete", steps(3, LOOK_UP, COMMIT)),
+        ("operation 2 is too late", steps(2, LOOK_UP, READ)),
+    )
+    yield from story(
+        "Out of order, one key, the other interleaving", 1, 3,
+        ("operation 1 is complete", whole(1, Put(1, a, 1))),
+        ("operation 2 has read", started + steps(2, LOOK_UP, READ)),
+        ("operation 3 is complete", steps(3, LOOK_UP, COMMIT)),
+        ("operation 2's check fails", steps(2, WRITE, CHECK)),
+    )
+    yield from story(
+        "Out of order, two keys in two file groups", 1, 4,
+        ("before any step", []),
+        ("operation 1 is complete", whole(1, Put(1, a, 1))),
+        ("operation 2 is complete", whole(2, Put(2, x, 2))),
+        ("3 and 4 have timestamps", step(3, Put(1, b, 1)) + step(4, Put(2, y, 2))),
+        ("operation 4 is complete", steps(4, LOOK_UP, COMMIT)),
+        ("operation 3 is complete", steps(3, LOOK_UP, COMMIT)),
+    )
+
+
+def traces() -> Iterator[str]:
+    """Document 01's traces, and its rules on refusals, ends, removes and stops."""
+    yield from story(
+        "P5", 1, 2,
+        ("both have read", through(0, Put(0, 10, 0), READ) + through(1, Put(1, 11, 0), READ)),
+        ("writer 0 commits", steps(0, WRITE, COMMIT)),
+        ("writer 1's check", steps(1, WRITE, CHECK)),
+    )
+    yield from story(
+        "P6", 1, 2,
+        ("both have looked up", step(0, Put(1, 10, 0)) + step(1, Put(1, 11, 1)) + step(0, LOOK_UP) + step(1, LOOK_UP)),
+        ("writer 0 commits", steps(0, READ, COMMIT)),
+        ("writer 1's index step", steps(1, READ, INDEX)),
+    )
+    yield from story(
+        "P7", 1, 3,
+        ("three have started", [Step(w, Put(1, 10 + w, 3)) for w in range(3)]),
+        ("timestamp 1 commits", steps(0, LOOK_UP, COMMIT)),
+        ("timestamp 3 commits", steps(2, LOOK_UP, COMMIT)),
+        ("timestamp 2 reads", steps(1, LOOK_UP, READ)),
+    )
+    yield from story("P8", 1, 1, ("remove", through(0, Remove(5), LOOK_UP)))
+    yield from story("P9", 0, 1, ("writer 8", step(8, Put(1, 10, 1)) + step(8, Put(32, 10, 1))))
+    yield from story(
+        "The order of the refusals", 1, 2,
+        ("two have begun", through(0, Put(1, 10, 1), WRITE) + through(1, Put(2, 20, 2), INDEX)),
+        ("10, then 12 and 13", [Step(9, Put(40, 1, 9)), Step(0, Put(40, 1, 9)), Step(0, Put(1, 1, 9)), Step(0, Remove(32))]),
+        ("14, not 16 nor 15", [Step(0, Put(1, 1, 1)), Step(0, CHECK), Step(0, COMMIT), Step(1, INDEX)]),
+        ("16", step(0, INDEX)),
+        ("writer 1 gives up, writer 0 commits", step(1, GIVE_UP) + steps(0, INDEX, COMMIT)),
+    )
+    put = Put(1, 10, 1)
+    aborted = [[Step(0, put), Step(0, GIVE_UP)]]
+    aborted += [through(0, put, last) + step(0, GIVE_UP) for last in (LOOK_UP, READ, WRITE, INDEX, CHECK)]
+    yield from story(
+        "Giving up", 1, 7,
+        ("at phase 0", step(0, GIVE_UP)),
+        ("at phases 1 to 4", sum(aborted[:4], [])),
+        ("at phases 5 and 6", sum(aborted[4:], [])),
+        ("key 1 stays in group 1", whole(1, Put(1, 11, 2))),
+    )
+    yield from story(
+        "A remove, and a put after it", 1, 4,
+        ("keys 1 and 2 are put", whole(0, Put(1, 10, 3)) + whole(0, Put(2, 20, 3))),
+        ("key 1 is removed", whole(1, Remove(1))),
+        ("key 1 is put again", whole(2, Put(1, 11, 5))),
+    )
+    zero = Put(0, 0, 0)
+    yield from story(
+        "The largest number of starts", 63, 65,
+        ("63 starts", [Step(0, zero), Step(0, GIVE_UP)] * 63),
+        ("the 64th", step(0, zero)),
+        ("another", [Step(1, zero), Step(1, Put(32, 0, 0)), Step(1, Put(0, 0, 8)), Step(1, Remove(0)), Step(0, zero), Step(1, GIVE_UP)]),
+        ("its end, the 65th", [Step(0, GIVE_UP), Step(0, zero)]),
+    )
+    before = {writer: encode([Step(writer, Put(1, 10, 1))]) for writer in range(1, 5)}
+    yield from story(
+        "Stops of a run", 1, 1,
+        ("empty log", b""),
+        ("document 01's log", EXAMPLE),
+        ("record cut short", before[1] + b"\x01"),
+        ("number longer than needed", before[2] + b"\x02\x83\x00"),
+        ("number too large", before[3] + b"\xff\xff\xff\xff\x10"),
+        ("no such kind", before[4] + b"\x04\x0a"),
+    )
+
+
+# --- The program calls -------------------------------------------------------
+
+
+def calls() -> Iterator[str]:
+    """What the calls answer."""
+    table = Table()
+    yield "== Point reads"
+    log = encode(whole(1, Put(1, 10, 1)) + whole(2, Put(2, 20, 2)) + whole(3, Put(1, 11, 1)) + whole(4, Put(2, 21, 2)))
+    yield from ran(table, "two keys are put, and put again", log, [0] * 28)[0]
+    for at, key in ((4, 1), (2, 1), (0, 1), (3, 2), (NEVER_ISSUED, 3), (4, 32), (4, MAX_NUMBER)):
+        yield point_line(table, at, key)
+
+    timestamps = (*range(9), 64, 65, NEVER_ISSUED)
+    table = Table()
+    yield "== Instants"
+    yield from (instant_line(table, at) for at in timestamps)
+    log = encode(
+        through(1, Remove(1), LOOK_UP)
+        + step(2, Put(1, 20, 5))
+        + whole(3, Put(1, 30, 5))
+        + steps(2, LOOK_UP, READ)
+        + through(4, Put(4, 40, 7), READ) + step(4, GIVE_UP)
+        + step(5, Put(5, 50, 0))
+        + through(6, Put(6, 10, 0), LOOK_UP)
+        + through(7, Put(7, 10, 0), READ)
+    )
+    yield from ran(table, "seven timestamps", log, [0] * 28)[0]
+    yield from (instant_line(table, at) for at in timestamps)
+
+    yield "== Room for two rows"
+    for once in (True, False):
+        table = Table()
+        log = encode(whole(1, Put(1, 10, 1)) + whole(2, Put(2, 20, 2)))
+        yield from ran(table, "two keys are put", log, [0] * 14)[0]
+        for at, room in ((2, 0), (2, 5), (2, 6), (2, 8), (0, 2)):
+            yield scan_into(table, at, room)
+        if once:
+            yield "-- step by step"
+
+    yield "== No place for the next answer"
+    for once in (True, False):
+        table = Table()
+        lines, offset = ran(table, "four places", EXAMPLE, [99] * 4)
+        yield from lines
+        places = [99] * 8
+        yield from ran(table, "the rest", EXAMPLE[offset:], places)[0]
+        yield numbers("all places:", [int(place) for place in places])
+        if once:
+            yield "-- step by step"
+
+    yield "== The log writer"
+    for place in (13, 6, 3):
+        buffer = bytearray(b"\xff" * 12)
+        answer, count = write_log(through(0, Put(1, 300, 2), LOOK_UP), buffer, place)
+        yield f"place {place} of 12: answer {answer:d}, {count} bytes: {buffer.hex(' ')}"
+
+    yield "== The number writer"
+    for number, room in ((0, 0), (300, 1), (300, 2), (MAX_NUMBER, 4), (MAX_NUMBER, 6)):
+        buffer, code = bytearray(b"\xff" * room), encode_number(number)
+        count = len(code) if len(code) <= room else 0
+        buffer[:count] = code[:count]
+        yield f"{number} into {room}: answer 0, {count} bytes:" + "".join(f" {byte:02x}" for byte in buffer)
+
+
+# --- The program tables ------------------------------------------------------
+
+
+def inflight(group: int) -> Instant:
+    return Instant(State.INFLIGHT, group)
+
+
+def completed(group: int) -> Instant:
+    return Instant(State.COMPLETED, group)
+
+
+def at_write(put: Put, timestamp: int, base: int) -> Writer:
+    """A writer at its write step, in the group that it proposed."""
+    return Writer(Phase.WRITE, put, timestamp, put.group, base)
+
+
+def table_of(
+    last: int,
+    timeline: dict[int, Instant],
+    writers: dict[int, Writer],
+    slices: dict[tuple[int, int], dict[int, int]],
+    index: dict[int, int] | None = None,
+    lock: int | None = None,
+) -> Table:
+    table = Table(last, timeline, slices, index or {}, lock)
+    for number, writer in writers.items():
+        table.writers[number] = writer
+    return table
+
+
+def hand_set() -> Iterator[str]:
+    """Tables in range that no steps lead to."""
+    one_by_one = [("writes", WRITE), ("indexes", INDEX), ("checks", CHECK), ("commits", COMMIT)]
+
+    def alone(writer: int) -> list[Piece]:
+        first, *rest = [(label, step(writer, action)) for label, action in one_by_one]
+        return [("as it is", []), (f"writer {writer} {first[0]}", first[1]), *rest]
+
+    yield "== A timestamp that is completed in another file group"
+    table = table_of(1, {1: completed(0)}, {1: at_write(Put(5, 55, 1), 1, 0)}, {(0, 1): {0: 10}})
+    yield from played(table, 1, 1, *alone(1))
+
+    yield "== A base of another file group"
+    table = table_of(
+        2,
+        {1: completed(1), 2: inflight(0)},
+        {0: at_write(Put(2, 9, 0), 2, 1)},
+        {(1, 1): {5: 7}},
+        index={5: 1},
+    )
+    yield from played(table, 1, 2, *alone(0))
+
+    yield "== One timestamp, two writers, two file groups"
+    table = table_of(
+        1, {1: inflight(0)}, {0: at_write(Put(0, 10, 0), 1, 0), 1: at_write(Put(5, 55, 1), 1, 0)}, {}
+    )
+    yield from played(
+        table, 1, 2,
+        ("as it is", []),
+        ("writer 0 writes", step(0, WRITE)),
+        ("writer 1 writes", step(1, WRITE)),
+        ("writer 0 indexes", step(0, INDEX)),
+        ("writer 1 waits", step(1, INDEX)),
+        ("writer 0 checks", step(0, CHECK)),
+        ("writer 0 commits", step(0, COMMIT)),
+        ("writer 1 indexes", step(1, INDEX)),
+        ("writer 1 checks", step(1, CHECK)),
+        ("writer 1 commits", step(1, COMMIT)),
+    )
+
+    yield "== One key in two file groups, and a base with no slice"
+    table = table_of(
+        4,
+        {1: completed(6), 2: completed(5), 3: completed(5), 4: inflight(5)},
+        {0: at_write(Put(2, 20, 5), 4, 3)},
+        {(6, 1): {1: 10}, (5, 2): {1: 99}},
+    )
+    yield from (point_line(table, at, 1) for at in (1, 2, 3))
+    yield from (scan_into(table, 2, room) for room in (3, 6))
+    yield from played(table, 1, 4, ("as it is", []), ("writer 0 commits", steps(0, WRITE, COMMIT)))
+
+    yield "== A lock whose holder has no operation"
+    table = table_of(
+        3,
+        {1: completed(4), 2: inflight(4), 3: inflight(6)},
+        {
+            0: Writer(Phase.COMMIT, Put(1, 11, 4), 2, 4, 1),
+            1: Writer(Phase.CHECK, Remove(2), 3, 4, 1),
+        },
+        {(4, 1): {1: 10}, (4, 2): {1: 11}},
+        lock=2,
+    )
+    put = Put(7, 70, 4)
+    yield from played(
+        table, 1, 6,
+        ("as it is", []),
+        ("writer 0 commits", step(0, COMMIT)),
+        ("writer 1's check fails", step(1, CHECK)),
+        ("writer 3 is at its index step", through(3, put, INDEX)),
+        ("writer 3 gives up", step(3, GIVE_UP)),
+        ("the holder starts, and gives up", [Step(2, Put(8, 80, 4)), Step(2, GIVE_UP)]),
+        ("the lock is free", whole(3, put)),
+    )
+
+
+def largest(last: int = MAX_TIMESTAMP) -> Table:
+    """A table in range with every number at its largest."""
+    group = GROUPS - 1
+    put = Put(KEYS - 1, MAX_NUMBER, group)
+    return Table(
+        last,
+        {timestamp: completed(group) for timestamp in range(1, last + 1)},
+        {(group, MAX_TIMESTAMP): {KEYS - 1: MAX_NUMBER}},
+        {key: group for key in range(KEYS)},
+        WRITERS - 1,
+        [Writer(Phase.COMMIT, put, last, group, last) for _ in range(WRITERS)],
+    )
+
+
+def tried(title: str, table: Table) -> Iterator[str]:
+    """A step by writer 8 and what the other calls answer, without a change."""
+    yield f"== {title}"
+    for label in ("run", "advance"):
+        yield from ran(table, label, encode(step(8, LOOK_UP)), [99])[0]
+    yield point_line(table, MAX_TIMESTAMP, KEYS)
+    yield scan_into(table, MAX_TIMESTAMP, 4)
+    yield instant_line(table, MAX_TIMESTAMP)
+
+
+def grounds() -> Iterator[str]:
+    """Answer 17, ground by ground."""
+
+    def changed(**fields) -> Table:
+        return replace(largest(), **fields)
+
+    def off(**fields) -> Table:
+        table = largest()
+        table.writers[-1] = replace(table.writers[-1], **fields)
+        return table
+
+    put = Put(KEYS - 1, MAX_NUMBER, GROUPS - 1)
+    group_8 = largest()
+    group_8.timeline[MAX_TIMESTAMP] = completed(GROUPS)
+    above = largest(MAX_TIMESTAMP - 1)
+    above.timeline[MAX_TIMESTAMP] = Instant(State.REQUESTED)
+    index = largest().index | {KEYS - 1: GROUPS}
+    yield from tried("17: no ground", largest())
+    yield from tried("17: last timestamp", changed(last_timestamp=MAX_TIMESTAMP + 1))
+    yield from tried("17: lock", changed(lock=WRITERS))
+    yield from tried("17: index entry", changed(index=index))
+    yield from tried("17: group of an instant", group_8)
+    yield from tried("17: instant above the last timestamp", above)
+    yield from tried("17: phase", off(phase=7))
+    yield from tried("17: key", off(operation=put._replace(key=KEYS)))
+    yield from tried("17: group", off(operation=put._replace(group=GROUPS), group=GROUPS))
+    yield from tried("17: timestamp", off(timestamp=MAX_TIMESTAMP + 1))
+    yield from tried("17: base", off(base=MAX_TIMESTAMP + 1))
+    yield from tried("17: timestamp 0", off(timestamp=0))
+    yield from tried("17: no ground, timestamp 0 at phase 0", off(timestamp=0, phase=Phase.READY))
+
+    yield "== Out of range, and back"
+    table = Table(MAX_TIMESTAMP + 1)
+    places = [99] * 4
+    yield from ran(table, "run", encode(through(0, Put(1, 10, 1), LOOK_UP)), places)[0]
+    yield numbers("all places:", [int(place) for place in places])
+    yield numbers("last timestamp:", [table.last_timestamp])
+    table.last_timestamp = 0
+    yield from played(table, 1, 1, ("back in range", whole(0, Put(1, 10, 1))))
+
+
+PROGRAMS = {
+    "stories": (examples, traces),
+    "calls": (calls,),
+    "tables": (hand_set, grounds),
+}
+
+
+def main() -> None:
+    crates = Path(sys.argv[1])
+    for name, parts in PROGRAMS.items():
+        lines = [line for part in parts for line in part()]
+        (crates / name / "stdout").write_text("".join(f"{line}\n" for line in lines))
+
+
+if __name__ == "__main__":
+    main()
