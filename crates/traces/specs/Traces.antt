@@ -3,10 +3,10 @@
 -- and tables that no run reaches.
 use Prim.Native.Nat.{ℕ, _-_}
 use mathlib.Core.Path.{_≡_, refl}
-use mathlib.Core.Bool.{true}
+use mathlib.Core.Bool.{true, false, cond}
 use mathlib.Core.List.{List, [], _∷_, _++_, map, foldl}
 use mathlib.Core.Option.{Option, none, some}
-use lib.ListN.{length, replicate, set}
+use lib.ListN.{length, replicate, set, take}
 use Rattle.leb128.specs.Coding.{encodedIn, encoded, decodedIn, decodedAt}
 use Rattle.leb128.specs.declared.Decoded.{Decoded}
 use Rattle.leb128.specs.declared.Decoded.the-variants.{Number, Stop}
@@ -14,8 +14,8 @@ use Rattle.common.specs.Counting.{upd, eachBelow, listBelow}
 use Rattle.model.specs.State.{Shared, State, ready, fresh, requested, inflight, completed, newest, rowAt, cell}
 use Rattle.model.specs.State.{withLast, withLock, withIndex, withTimeline, withPresent, withValues}
 use Rattle.model.specs.Range.{inRange, writersInRange, indexInRange, instantsInRange, noneAbove}
-use Rattle.model.specs.Rules.{withInstant, copied, sliced, start, lookUp, readBase, writeSlice, enterIndex, checkConflict, commit, abort}
-use Rattle.model.specs.Rules.{ruled, act, stepTested, step}
+use Rattle.model.specs.Rules.{entryOf, withInstant, copied, sliced, start, lookUp, readBase, writeSlice, enterIndex, checkConflict, commit, abort}
+use Rattle.model.specs.Rules.{ruled, act, writerOf, stepTested, step}
 use Rattle.model.specs.Machine.{answersFrom, commitMachine}
 use Rattle.model.specs.Snapshot.{Listed, rowsAt, numbers, scan, pointRead, instantState, instantAt}
 use Rattle.model.specs.History.{Pending, Committed, History, empty, startRecorded, commitRecorded, endRecorded, recorded}
@@ -38,6 +38,7 @@ pub data Case : Type 0 where
   eachAnswer : State → Case  -- the answers to each action of writer 0, all on the same table
   scanned : State → List Step → ℕ → ℕ → Case  -- a scan after steps on a table, at a timestamp, with room for so many numbers, each 99
   read : State → List Step → ℕ → ℕ → Case  -- a point read after steps on a table, at a timestamp, of a key
+  stands : State → List Step → ℕ → ℕ → Case  -- last timestamp, lock, a writer's record and a key's index entry after steps on a table
   instants : State → List Step → List ℕ → Case  -- the instants of some timestamps after steps on a table
   history : List Step → Case  -- the history of steps on a fresh table
   judged : State → Case  -- a step of writer 8, a read of key 32, a scan with too little room, and the instant of timestamp 1
@@ -70,6 +71,14 @@ instantNumbers (instant.Completed g) = 0 ∷ 3 ∷ g ∷ []
 abbrev instantsNumbers : State → List ℕ → List ℕ
 instantsNumbers st [] = []
 instantsNumbers st (t ∷ ts) = instantNumbers (instantAt st t) ++ instantsNumbers st ts
+
+-- a writer's record
+abbrev pub writerNumbers : Writer → List ℕ
+writerNumbers x = x .phase ∷ cond (x .put) 1 0 ∷ x .key ∷ x .group ∷ x .ts ∷ x .base ∷ x .value ∷ []
+
+-- the last timestamp, the lock, a key's index entry and a writer's record
+abbrev standing : Shared → Writer → ℕ → List ℕ
+standing s x k = s .last ∷ s .lock ∷ entryOf s k ∷ writerNumbers x
 
 -- an operation, as a log has it
 abbrev pub operationNumbers : Operation → List ℕ
@@ -117,6 +126,7 @@ outcome (answers st ss) = answersFrom commitMachine st ss
 outcome (eachAnswer st) = map (λ a. step st (does 0 a) .answer) actions
 outcome (scanned st ss t room) = listedNumbers (scan (stateAfter st ss) t (replicate room 99))
 outcome (read st ss t k) = foundNumbers (pointRead (stateAfter st ss) t k)
+outcome (stands st ss w k) = standing (stateAfter st ss .shared) (writerOf (stateAfter st ss) w) k
 outcome (instants st ss ts) = instantsNumbers (stateAfter st ss) ts
 outcome (history ss) = historyNumbers (after ss .history)
 outcome (judged st) =
@@ -179,11 +189,19 @@ aborts = startAndAbort 0 ++ (does 0 (Start (Put 1 10 5)) ∷ does 0 LookUp ∷ d
 abbrev putAndRemove : List Step
 putAndRemove = whole 0 (Put 1 10 1) ++ whole 3 (Put 1 11 5) ++ whole 3 (Remove 1)
 
+-- a put in a group that has a commit
+abbrev secondPut : List Step
+secondPut = whole 0 (Put 5 10 3) ++ whole 2 (Put 6 55 3)
+
 -- Tables that no run reaches.
 
 -- what writers share, with the slice of file group g and timestamp n given one row more
 abbrev withRow : Shared → ℕ → ℕ → ℕ → ℕ → Shared
 withRow s g n k v = withValues (withPresent s (set (s .present) (rowAt g n k) true)) (set (s .values) (rowAt g n k) v)
+
+-- what writers share, with another index entry of key k
+abbrev withEntry : Shared → ℕ → ℕ → Shared
+withEntry s k e = withIndex s (set (s .index) k e)
 
 -- what writers share where these instants are issued, and nothing else is done
 abbrev withInstants : List ℕ → Shared
@@ -197,9 +215,12 @@ table s = record { shared = s; writers = replicate 8 ready }
 abbrev withWriter : State → ℕ → Writer → State
 withWriter st w x = record { shared = st .shared; writers = set (st .writers) w x }
 
--- a writer with a put of 55 in progress
+-- a writer with a put of 55, and one with a remove, in progress
 abbrev busy : ℕ → ℕ → ℕ → ℕ → ℕ → Writer
 busy phase key group ts base = record { phase = phase; put = true; key = key; group = group; ts = ts; base = base; value = 55 }
+
+abbrev removing : ℕ → ℕ → ℕ → ℕ → ℕ → Writer
+removing phase key group ts base = record { phase = phase; put = false; key = key; group = group; ts = ts; base = base; value = 0 }
 
 -- writer 0 stands at a phase, the others are ready
 abbrev atPhase : ℕ → State
@@ -222,9 +243,14 @@ oneTimestamp = withWriter (withWriter (table (withInstants (inflight 0 ∷ [])))
 abbrev oneKeyTwice : State
 oneKeyTwice = table (withRow (withRow (withInstants (completed 1 ∷ completed 0 ∷ [])) 1 1 5 7) 0 2 5 8)
 
--- all timestamps are issued, writer 5 holds the lock, writer 1 is at phase 1 and writer 2 at phase 4
+-- all timestamps are issued, writer 5 holds the lock, writer 1 is at phase 1, and writer 2 at phase 4 with a key of another group
 abbrev refusing : State
-refusing = withWriter (withWriter (table (withLock (withInstants (replicate 64 requested)) 6)) 1 (busy 1 0 0 1 0)) 2 (busy 4 0 0 2 0)
+refusing =
+    withWriter (withWriter (table (withEntry (withLock (withInstants (replicate 64 requested)) 6) 0 2)) 1 (busy 1 0 0 1 0)) 2 (busy 4 0 0 2 0)
+
+-- two timestamps are issued, writer 5 holds the lock, and writer 0 is x
+abbrev holding : Writer → State
+holding x = withWriter (table (withLock (withInstants (completed 0 ∷ completed 1 ∷ [])) 6)) 0 x
 
 -- n timestamps are issued, and every other number is the largest in range; one row is shown at timestamp 1
 abbrev largest : ℕ → State
@@ -237,9 +263,6 @@ largest n =
 -- the same, with something else in what writers share, or in one writer
 abbrev largestBut : ℕ → (Shared → Shared) → State
 largestBut n change = record { shared = change (largest n .shared); writers = largest n .writers }
-
-abbrev withEntry : Shared → ℕ → ℕ → Shared
-withEntry s k e = withIndex s (set (s .index) k e)
 
 -- no ground of 17: the step gives 10, the read 12, the scan 31, and the instant is completed in group 7
 abbrev ranged : List ℕ
@@ -313,6 +336,28 @@ traces =
     ∷ (instants fresh p8 (1 ∷ []) gives isRequested)
     ∷ (instants fresh aborts (1 ∷ 2 ∷ 3 ∷ []) gives isRequested ++ isInflight 5 ++ isRequested)
     ∷ (instants fresh p10 (1 ∷ 2 ∷ 3 ∷ 4 ∷ []) gives isCompleted 1 ++ isCompleted 2 ++ isRequested ++ isCompleted 2)
+    -- a table at each step of an operation: writer 2 puts key 6 in group 3, whose base is timestamp 1
+    ∷ (stands fresh (take 8 secondPut) 2 6 gives 2 ∷ 0 ∷ 0 ∷ writerNumbers (busy 1 6 3 2 0))
+    ∷ (stands fresh (take 9 secondPut) 2 6 gives 2 ∷ 0 ∷ 0 ∷ writerNumbers (busy 2 6 3 2 0))
+    ∷ (stands fresh (take 10 secondPut) 2 6 gives 2 ∷ 0 ∷ 0 ∷ writerNumbers (busy 3 6 3 2 1))
+    ∷ (stands fresh (take 11 secondPut) 2 6 gives 2 ∷ 0 ∷ 0 ∷ writerNumbers (busy 4 6 3 2 1))
+    ∷ (stands fresh (take 12 secondPut) 2 6 gives 2 ∷ 3 ∷ 4 ∷ writerNumbers (busy 5 6 3 2 1))
+    ∷ (stands fresh (take 13 secondPut) 2 6 gives 2 ∷ 3 ∷ 4 ∷ writerNumbers (busy 6 6 3 2 1))
+    ∷ (stands fresh secondPut 2 6 gives 2 ∷ 0 ∷ 4 ∷ writerNumbers ready)
+    -- a remove carries no value and no group before its look up, and its index step enters nothing
+    ∷ (stands fresh (does 2 (Start (Remove 6)) ∷ []) 2 6 gives 1 ∷ 0 ∷ 0 ∷ writerNumbers (removing 1 6 0 1 0))
+    ∷ (stands (withWriter (table (withInstants (inflight 0 ∷ []))) 0 (removing 4 6 0 1 0)) (does 0 Index ∷ []) 0 6
+    gives 1 ∷ 1 ∷ 0 ∷ writerNumbers (removing 5 6 0 1 0))
+    -- an ending frees the writer's own lock and no other: after 5 and 4, and where another writer holds it
+    ∷ (stands fresh p5 1 1 gives 2 ∷ 0 ∷ 1 ∷ writerNumbers ready)
+    ∷ (stands fresh p6 1 1 gives 2 ∷ 0 ∷ 1 ∷ writerNumbers ready)
+    ∷ (stands (holding (busy 3 6 0 2 0)) (does 0 Abort ∷ []) 0 6 gives 2 ∷ 6 ∷ 0 ∷ writerNumbers ready)
+    ∷ (stands (holding (busy 5 6 0 1 0)) (does 0 Check ∷ []) 0 6 gives 2 ∷ 6 ∷ 0 ∷ writerNumbers ready)
+    ∷ (stands (holding (busy 6 6 0 2 2)) (does 0 Commit ∷ []) 0 6 gives 2 ∷ 6 ∷ 0 ∷ writerNumbers ready)
+    -- a look up leaves the base; a writer whose own timestamp is completed in its group is not too late; a check at the base finds no change
+    ∷ (stands (holding (busy 1 6 0 1 2)) (does 0 LookUp ∷ []) 0 6 gives 2 ∷ 6 ∷ 0 ∷ writerNumbers (busy 2 6 0 1 2))
+    ∷ (stands (holding (busy 2 6 1 2 0)) (does 0 Read ∷ []) 0 6 gives 2 ∷ 6 ∷ 0 ∷ writerNumbers (busy 3 6 1 2 2))
+    ∷ (stands (holding (busy 5 6 1 1 2)) (does 0 Check ∷ []) 0 6 gives 2 ∷ 6 ∷ 0 ∷ writerNumbers (busy 6 6 1 1 2))
     -- the actions at each phase: start, look up, read, write, index, check, commit, abort
     ∷ (eachAnswer (atPhase 0) gives 0 ∷ 14 ∷ 14 ∷ 14 ∷ 14 ∷ 14 ∷ 14 ∷ 14 ∷ [])
     ∷ (eachAnswer (atPhase 1) gives 14 ∷ 0 ∷ 14 ∷ 14 ∷ 14 ∷ 14 ∷ 14 ∷ 6 ∷ [])
