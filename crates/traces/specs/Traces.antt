@@ -1,148 +1,29 @@
--- What the definitions give, case by case, in one table with one claim about all of it: document 01's traces (Traces to hold it to) that are marked P,
--- and cases for what no law of the whole table says: the history, the instants, the grounds of 17 one by one, the refusals in their order,
--- and tables that no run reaches.
+-- What the definitions give, in one table with one claim about all of it: document 01's traces (Traces to hold it to) that are marked P, and cases for
+-- what no law of the whole table says: histories, instants, the grounds of 17 one by one, the refusals in their order, tables that no run reaches.
 use Prim.Native.Nat.{ℕ, _-_}
 use mathlib.Core.Path.{_≡_, refl}
-use mathlib.Core.Bool.{true, false, cond}
-use mathlib.Core.List.{List, [], _∷_, _++_, map, foldl}
-use mathlib.Core.Option.{Option, none, some}
+use mathlib.Core.Bool.{true, false}
+use mathlib.Core.List.{List, [], _∷_, _++_, map}
 use lib.ListN.{length, replicate, set, take}
 use Rattle.leb128.specs.Coding.{encodedIn, encoded, decodedIn, decodedAt}
-use Rattle.leb128.specs.declared.Decoded.{Decoded}
-use Rattle.leb128.specs.declared.Decoded.the-variants.{Number, Stop}
 use Rattle.common.specs.Counting.{upd, eachBelow, listBelow}
 use Rattle.model.specs.State.{Shared, State, ready, fresh, requested, inflight, completed, newest, rowAt, cell}
 use Rattle.model.specs.State.{withLast, withLock, withIndex, withTimeline, withPresent, withValues}
 use Rattle.model.specs.Range.{inRange, writersInRange, indexInRange, instantsInRange, noneAbove}
-use Rattle.model.specs.Rules.{entryOf, withInstant, copied, sliced, start, lookUp, readBase, writeSlice, enterIndex, checkConflict, commit, abort}
-use Rattle.model.specs.Rules.{ruled, act, writerOf, stepTested, step}
-use Rattle.model.specs.Machine.{answersFrom, commitMachine}
-use Rattle.model.specs.Snapshot.{Listed, rowsAt, numbers, scan, pointRead, instantState, instantAt}
-use Rattle.model.specs.History.{Pending, Committed, History, empty, startRecorded, commitRecorded, endRecorded, recorded}
-use Rattle.model.specs.Isolation.{storedBy, executed, next, after}
+use Rattle.model.specs.Rules.{withInstant, copied, sliced, start, lookUp, readBase, writeSlice, enterIndex, checkConflict, commit, abort}
+use Rattle.model.specs.Rules.{ruled, act, stepTested, step}
+use Rattle.model.specs.Machine.{answersFrom}
+use Rattle.model.specs.Snapshot.{rowsAt, numbers, scan, pointRead, instantState, instantAt}
+use Rattle.model.specs.History.{empty, startRecorded, commitRecorded, endRecorded, recorded}
+use Rattle.model.specs.Isolation.{storedBy, executed, next}
 use Rattle.model.specs.declared.Writer.{Writer}
 use Rattle.model.specs.declared.Operation.{Operation}
 use Rattle.model.specs.declared.Operation.the-variants.{Put, Remove}
-use Rattle.model.specs.declared.Action.{Action}
 use Rattle.model.specs.declared.Action.the-variants.{Start, LookUp, Read, Write, Index, Check, Commit, Abort}
 use Rattle.model.specs.declared.Step.{Step}
-use Rattle.model.specs.declared.Found.{Found}
-use Rattle.model.specs.declared.Found.the-variants as found
-use Rattle.model.specs.declared.InstantState.{InstantState}
 use Rattle.model.specs.declared.InstantState.the-variants as instant
-
-pub data Case : Type 0 where
-  encode : ℕ → Case  -- a number
-  decode : List ℕ → Case  -- bytes, from their start
-  answers : State → List Step → Case  -- the answers to steps on a table
-  eachAnswer : State → Case  -- the answers to each action of writer 0, all on the same table
-  scanned : State → List Step → ℕ → ℕ → Case  -- a scan after steps on a table, at a timestamp, with room for so many numbers, each 99
-  read : State → List Step → ℕ → ℕ → Case  -- a point read after steps on a table, at a timestamp, of a key
-  stands : State → List Step → ℕ → ℕ → Case  -- last timestamp, lock, a writer's record and a key's index entry after steps on a table
-  instants : State → List Step → List ℕ → Case  -- the instants of some timestamps after steps on a table
-  history : List Step → Case  -- the history of steps on a fresh table
-  judged : State → Case  -- a step of writer 8, a read of key 32, a scan with too little room, and the instant of timestamp 1
-
--- What a case gives, in numbers.
-
--- a number and the place behind it, or the stop alone
-abbrev pub decodedNumbers : Decoded → List ℕ
-decodedNumbers (Number value next) = value ∷ next ∷ []
-decodedNumbers (Stop stop) = stop ∷ []
-
--- the answer of a scan, its row count and the lent numbers
-abbrev pub listedNumbers : Listed → List ℕ
-listedNumbers l = l .answer ∷ l .count ∷ l .buffer
-
--- the answer of a point read; where it is 0, the number of rows; where that is 1, the row's value and file group
-abbrev pub foundNumbers : Found → List ℕ
-foundNumbers (found.Refused n) = n ∷ []
-foundNumbers found.Absent = 0 ∷ 0 ∷ []
-foundNumbers (found.Present v g) = 0 ∷ 1 ∷ v ∷ g ∷ []
-
--- the answer of the instant call; where it is 0, the state, 0 to 3 as listed here, and from inflight on the file group
-abbrev pub instantNumbers : InstantState → List ℕ
-instantNumbers (instant.Refused n) = n ∷ []
-instantNumbers instant.None = 0 ∷ 0 ∷ []
-instantNumbers instant.Requested = 0 ∷ 1 ∷ []
-instantNumbers (instant.Inflight g) = 0 ∷ 2 ∷ g ∷ []
-instantNumbers (instant.Completed g) = 0 ∷ 3 ∷ g ∷ []
-
-abbrev instantsNumbers : State → List ℕ → List ℕ
-instantsNumbers st [] = []
-instantsNumbers st (t ∷ ts) = instantNumbers (instantAt st t) ++ instantsNumbers st ts
-
--- a writer's record
-abbrev pub writerNumbers : Writer → List ℕ
-writerNumbers x = x .phase ∷ cond (x .put) 1 0 ∷ x .key ∷ x .group ∷ x .ts ∷ x .base ∷ x .value ∷ []
-
--- the last timestamp, the lock, a key's index entry and a writer's record
-abbrev standing : Shared → Writer → ℕ → List ℕ
-standing s x k = s .last ∷ s .lock ∷ entryOf s k ∷ writerNumbers x
-
--- an operation, as a log has it
-abbrev pub operationNumbers : Operation → List ℕ
-operationNumbers (Put k v g) = 1 ∷ k ∷ v ∷ g ∷ []
-operationNumbers (Remove k) = 2 ∷ k ∷ []
-
--- an operation in progress under a timestamp, and one committed at a timestamp in a file group
-abbrev pub inProgress : ℕ → Operation → List ℕ
-inProgress ts op = ts ∷ operationNumbers op
-
-abbrev pub committedAt : ℕ → ℕ → Operation → List ℕ
-committedAt ts group op = ts ∷ group ∷ operationNumbers op
-
--- what a writer has in progress, 0 for nothing
-abbrev pub pendingNumbers : Option Pending → List ℕ
-pendingNumbers none = 0 ∷ []
-pendingNumbers (some p) = inProgress (p .ts) (p .operation)
-
--- the committed operations, the last one first
-abbrev pub committedNumbers : List Committed → List ℕ
-committedNumbers [] = []
-committedNumbers (c ∷ cs) = committedAt (c .ts) (c .group) (c .operation) ++ committedNumbers cs
-
--- a whole history: the last timestamp, what each writer has in progress, the committed operations
-abbrev pub historyNumbers : History → List ℕ
-historyNumbers h = h .last ∷ listBelow 8 (λ w. pendingNumbers (h .pending w)) ++ committedNumbers (h .done)
-
--- a table after steps
-abbrev stateAfter : State → List Step → State
-stateAfter st ss = foldl (commitMachine .after) st ss
-
--- writer w does a
-abbrev does : ℕ → Action → Step
-does w a = record { writer = w; action = a }
-
--- every action, a start with a key and a group that exist
-abbrev actions : List Action
-actions = Start (Put 0 10 0) ∷ LookUp ∷ Read ∷ Write ∷ Index ∷ Check ∷ Commit ∷ Abort ∷ []
-
--- what the definitions give
-unfoldable pub outcome : Case → List ℕ
-outcome (encode n) = encoded n
-outcome (decode bytes) = decodedNumbers (decodedAt bytes 0)
-outcome (answers st ss) = answersFrom commitMachine st ss
-outcome (eachAnswer st) = map (λ a. step st (does 0 a) .answer) actions
-outcome (scanned st ss t room) = listedNumbers (scan (stateAfter st ss) t (replicate room 99))
-outcome (read st ss t k) = foundNumbers (pointRead (stateAfter st ss) t k)
-outcome (stands st ss w k) = standing (stateAfter st ss .shared) (writerOf (stateAfter st ss) w) k
-outcome (instants st ss ts) = instantsNumbers (stateAfter st ss) ts
-outcome (history ss) = historyNumbers (after ss .history)
-outcome (judged st) =
-    step st (does 8 (Start (Put 32 0 8))) .answer
-    ∷ foundNumbers (pointRead st 1 32) ++ listedNumbers (scan st 1 (replicate 2 99)) ++ instantNumbers (instantAt st 1)
-
--- a case and what it is stated to give
-pub record Trace : Type 0 where
-  pub case : Case
-  pub stated : List ℕ
-
-abbrev _gives_ : Case → List ℕ → Trace
-case gives stated = record { case = case; stated = stated }
-
-infix 4 _gives_
--- Steps.
+use Rattle.traces.specs.Cases.{Case, encode, decode, answers, eachAnswer, scanned, read, stands, instants, history, judged}
+use Rattle.traces.specs.Cases.{writerNumbers, instantNumbers, inProgress, committedAt, does, outcome, Trace, _gives_}
 
 -- a started operation carried out to its commit, from its look up on
 abbrev restOf : ℕ → List Step
@@ -248,9 +129,9 @@ abbrev refusing : State
 refusing =
     withWriter (withWriter (table (withEntry (withLock (withInstants (replicate 64 requested)) 6) 0 2)) 1 (busy 1 0 0 1 0)) 2 (busy 4 0 0 2 0)
 
--- two timestamps are issued, writer 5 holds the lock, and writer 0 is x
+-- two timestamps are completed, writer 5 holds the lock, key 5 is indexed to group 3, and writer 0 is x
 abbrev holding : Writer → State
-holding x = withWriter (table (withLock (withInstants (completed 0 ∷ completed 1 ∷ [])) 6)) 0 x
+holding x = withWriter (table (withEntry (withLock (withInstants (completed 0 ∷ completed 1 ∷ [])) 6) 5 4)) 0 x
 
 -- n timestamps are issued, and every other number is the largest in range; one row is shown at timestamp 1
 abbrev largest : ℕ → State
@@ -348,14 +229,17 @@ traces =
     ∷ (stands fresh (does 2 (Start (Remove 6)) ∷ []) 2 6 gives 1 ∷ 0 ∷ 0 ∷ writerNumbers (removing 1 6 0 1 0))
     ∷ (stands (withWriter (table (withInstants (inflight 0 ∷ []))) 0 (removing 4 6 0 1 0)) (does 0 Index ∷ []) 0 6
     gives 1 ∷ 1 ∷ 0 ∷ writerNumbers (removing 5 6 0 1 0))
-    -- an ending frees the writer's own lock and no other: after 5 and 4, and where another writer holds it
+    -- after an ending the writer is ready: 5, 4, 3 and 2; it frees its own lock and no other's
     ∷ (stands fresh p5 1 1 gives 2 ∷ 0 ∷ 1 ∷ writerNumbers ready)
     ∷ (stands fresh p6 1 1 gives 2 ∷ 0 ∷ 1 ∷ writerNumbers ready)
+    ∷ (stands fresh p7 1 0 gives 3 ∷ 0 ∷ 1 ∷ writerNumbers ready)
+    ∷ (stands fresh p8 0 0 gives 1 ∷ 0 ∷ 0 ∷ writerNumbers ready)
     ∷ (stands (holding (busy 3 6 0 2 0)) (does 0 Abort ∷ []) 0 6 gives 2 ∷ 6 ∷ 0 ∷ writerNumbers ready)
     ∷ (stands (holding (busy 5 6 0 1 0)) (does 0 Check ∷ []) 0 6 gives 2 ∷ 6 ∷ 0 ∷ writerNumbers ready)
     ∷ (stands (holding (busy 6 6 0 2 2)) (does 0 Commit ∷ []) 0 6 gives 2 ∷ 6 ∷ 0 ∷ writerNumbers ready)
-    -- a look up leaves the base; a writer whose own timestamp is completed in its group is not too late; a check at the base finds no change
+    -- a look up leaves the base, of a key that is indexed or not; a writer whose own timestamp is completed in its group is not too late; a check at the base finds no change
     ∷ (stands (holding (busy 1 6 0 1 2)) (does 0 LookUp ∷ []) 0 6 gives 2 ∷ 6 ∷ 0 ∷ writerNumbers (busy 2 6 0 1 2))
+    ∷ (stands (holding (busy 1 5 0 1 2)) (does 0 LookUp ∷ []) 0 5 gives 2 ∷ 6 ∷ 4 ∷ writerNumbers (busy 2 5 3 1 2))
     ∷ (stands (holding (busy 2 6 1 2 0)) (does 0 Read ∷ []) 0 6 gives 2 ∷ 6 ∷ 0 ∷ writerNumbers (busy 3 6 1 2 2))
     ∷ (stands (holding (busy 5 6 1 1 2)) (does 0 Check ∷ []) 0 6 gives 2 ∷ 6 ∷ 0 ∷ writerNumbers (busy 6 6 1 1 2))
     -- the actions at each phase: start, look up, read, write, index, check, commit, abort
