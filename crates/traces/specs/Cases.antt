@@ -1,14 +1,14 @@
 -- A trace: what is asked of the definitions, and what they are stated to give, in numbers.
 use Prim.Native.Nat.{ℕ}
-use mathlib.Core.Bool.{cond}
+use mathlib.Core.Bool.{false, cond}
 use mathlib.Core.List.{List, [], _∷_, _++_, map, foldl}
 use mathlib.Core.Option.{Option, none, some}
-use lib.ListN.{replicate}
+use lib.ListN.{getD, replicate}
 use Rattle.leb128.specs.Coding.{encoded, decodedAt}
 use Rattle.leb128.specs.declared.Decoded.{Decoded}
 use Rattle.leb128.specs.declared.Decoded.the-variants.{Number, Stop}
 use Rattle.common.specs.Counting.{listBelow}
-use Rattle.model.specs.State.{Shared, State}
+use Rattle.model.specs.State.{Shared, State, rowAt}
 use Rattle.model.specs.Rules.{entryOf, writerOf, step}
 use Rattle.model.specs.Machine.{answersFrom, commitMachine}
 use Rattle.model.specs.Snapshot.{Listed, scan, pointRead, instantAt}
@@ -33,8 +33,11 @@ pub data Case : Type 0 where
   scanned : State → List Step → ℕ → ℕ → Case  -- a scan after steps on a table, at a timestamp, with room for so many numbers, each 99
   read : State → List Step → ℕ → ℕ → Case  -- a point read after steps on a table, at a timestamp, of a key
   stands : State → List Step → ℕ → ℕ → Case  -- last timestamp, lock, a writer's record and a key's index entry after steps on a table
+  place : ℕ → ℕ → ℕ → Case  -- the place of the row of a file group, timestamp and key
+  rows : State → List Step → List ℕ → Case  -- the rows at some places after steps on a table
   instants : State → List Step → List ℕ → Case  -- the instants of some timestamps after steps on a table
   history : List Step → Case  -- the history of steps on a fresh table
+  stored : List Step → ℕ → ℕ → Case  -- what the write steps among steps on a fresh table stored under a timestamp, of a key
   judged : State → Case  -- a step of writer 8, a read of key 32, a scan with too little room, and the instant of timestamp 1
 
 -- a number and the place behind it, or the stop alone
@@ -71,6 +74,16 @@ writerNumbers x = x .phase ∷ cond (x .put) 1 0 ∷ x .key ∷ x .group ∷ x .
 -- the last timestamp, the lock, a key's index entry and a writer's record
 abbrev pub standing : Shared → Writer → ℕ → List ℕ
 standing s x k = s .last ∷ s .lock ∷ entryOf s k ∷ writerNumbers x
+
+-- the rows at some places: present or not, and the value
+abbrev pub rowsNumbers : Shared → List ℕ → List ℕ
+rowsNumbers s [] = []
+rowsNumbers s (i ∷ is) = cond (getD (s .present) i false) 1 0 ∷ getD (s .values) i 0 ∷ rowsNumbers s is
+
+-- a value, or none
+abbrev pub valueNumbers : Option ℕ → List ℕ
+valueNumbers none = 0 ∷ []
+valueNumbers (some v) = 1 ∷ v ∷ []
 
 -- an operation, as a log has it
 abbrev pub operationNumbers : Operation → List ℕ
@@ -119,8 +132,11 @@ outcome (eachAnswer st) = map (λ a. step st (does 0 a) .answer) actions
 outcome (scanned st ss t room) = listedNumbers (scan (stateAfter st ss) t (replicate room 99))
 outcome (read st ss t k) = foundNumbers (pointRead (stateAfter st ss) t k)
 outcome (stands st ss w k) = standing (stateAfter st ss .shared) (writerOf (stateAfter st ss) w) k
+outcome (place g n k) = rowAt g n k ∷ []
+outcome (rows st ss is) = rowsNumbers (stateAfter st ss .shared) is
 outcome (instants st ss ts) = instantsNumbers (stateAfter st ss) ts
 outcome (history ss) = historyNumbers (after ss .history)
+outcome (stored ss n k) = valueNumbers (after ss .stored n k)
 outcome (judged st) =
     step st (does 8 (Start (Put 32 0 8))) .answer
     ∷ foundNumbers (pointRead st 1 32) ++ listedNumbers (scan st 1 (replicate 2 99)) ++ instantNumbers (instantAt st 1)

@@ -21,9 +21,9 @@ use Rattle.model.specs.declared.Operation.{Operation}
 use Rattle.model.specs.declared.Operation.the-variants.{Put, Remove}
 use Rattle.model.specs.declared.Action.the-variants.{Start, LookUp, Read, Write, Index, Check, Commit, Abort}
 use Rattle.model.specs.declared.Step.{Step}
-use Rattle.model.specs.declared.InstantState.the-variants as instant
-use Rattle.traces.specs.Cases.{Case, encode, decode, answers, eachAnswer, scanned, read, stands, instants, history, judged}
-use Rattle.traces.specs.Cases.{writerNumbers, instantNumbers, inProgress, committedAt, does, outcome, Trace, _gives_}
+use Rattle.traces.specs.Cases.{Case, encode, decode, answers, eachAnswer, scanned, read, stands}
+use Rattle.traces.specs.Cases.{place, rows, instants, history, stored, judged}
+use Rattle.traces.specs.Cases.{writerNumbers, inProgress, committedAt, does, outcome, Trace, _gives_}
 
 -- a started operation carried out to its commit, from its look up on
 abbrev restOf : ℕ → List Step
@@ -38,6 +38,12 @@ abbrev p5 : List Step
 p5 =
     does 0 (Start (Put 0 10 0)) ∷ does 1 (Start (Put 1 11 0)) ∷ does 0 LookUp ∷ does 1 LookUp ∷ does 0 Read ∷ does 1 Read ∷ does 0 Write
     ∷ does 0 Index ∷ does 0 Check ∷ does 0 Commit ∷ does 1 Write ∷ does 1 Index ∷ does 1 Check ∷ []
+
+-- the same, where the second commits first
+abbrev p5Swapped : List Step
+p5Swapped =
+    does 0 (Start (Put 0 10 0)) ∷ does 1 (Start (Put 1 11 0)) ∷ does 0 LookUp ∷ does 1 LookUp ∷ does 0 Read ∷ does 1 Read ∷ does 1 Write
+    ∷ does 1 Index ∷ does 1 Check ∷ does 1 Commit ∷ does 0 Write ∷ does 0 Index ∷ does 0 Check ∷ []
 
 -- two puts of one key in two groups, both looked up before the first commits; then the second's index step
 abbrev p6 : List Step
@@ -65,6 +71,10 @@ startAndAbort n = does 0 (Start (Remove 0)) ∷ does 0 Abort ∷ []
 -- a writer aborts at phase 1, then at phase 3; then it starts again
 abbrev aborts : List Step
 aborts = startAndAbort 0 ++ (does 0 (Start (Put 1 10 5)) ∷ does 0 LookUp ∷ does 0 Read ∷ does 0 Abort ∷ does 0 (Start (Put 1 11 6)) ∷ [])
+
+-- a writer has an operation in progress and is refused, while another's operation ends
+abbrev beside : List Step
+beside = does 0 (Start (Put 0 10 0)) ∷ does 0 Commit ∷ does 1 (Start (Remove 5)) ∷ does 1 LookUp ∷ []
 
 -- a put that proposes another group than the key's own, then a remove of the key
 abbrev putAndRemove : List Step
@@ -124,6 +134,18 @@ oneTimestamp = withWriter (withWriter (table (withInstants (inflight 0 ∷ [])))
 abbrev oneKeyTwice : State
 oneKeyTwice = table (withRow (withRow (withInstants (completed 1 ∷ completed 0 ∷ [])) 1 1 5 7) 0 2 5 8)
 
+-- in group 0 the slice of timestamp 1 has keys 0 and 2, and a value under key 1, which is absent; at timestamp 2 rows stand in groups 0 and 1;
+-- writer 0 removes key 2 in group 0 with a value in its record, writer 1 puts key 1 in group 1 with base 0
+abbrev staleRows : State
+staleRows =
+    withWriter
+    (withWriter
+    (table
+    (withRow (withRow (withRow (withRow (withValues (withInstants (completed 0 ∷ inflight 0 ∷ [])) (set (fresh .shared .values) 1 11)) 0 1 0 10) 0 1 2 12)
+    0 2 1 13) 1 2 0 14))
+    0 (record { phase = 3; put = false; key = 2; group = 0; ts = 2; base = 1; value = 7 }))
+    1 (busy 3 1 1 2 0)
+
 -- all timestamps are issued, writer 5 holds the lock, writer 1 is at phase 1, and writer 2 at phase 4 with a key of another group
 abbrev refusing : State
 refusing =
@@ -153,22 +175,26 @@ ranged = 10 ∷ 12 ∷ 31 ∷ 0 ∷ 99 ∷ 99 ∷ 0 ∷ 3 ∷ 7 ∷ []
 abbrev unranged : List ℕ
 unranged = 17 ∷ 17 ∷ 17 ∷ 0 ∷ 99 ∷ 99 ∷ 17 ∷ []
 
+-- the record of a ready writer
+abbrev zeros : List ℕ
+zeros = 0 ∷ 0 ∷ 0 ∷ 0 ∷ 0 ∷ 0 ∷ 0 ∷ []
+
 -- n writers have nothing in progress
 abbrev idle : ℕ → List ℕ
 idle n = replicate n 0
 
 -- the instant call gives these
 abbrev isNone : List ℕ
-isNone = instantNumbers instant.None
+isNone = 0 ∷ 0 ∷ []
 
 abbrev isRequested : List ℕ
-isRequested = instantNumbers instant.Requested
+isRequested = 0 ∷ 1 ∷ []
 
 abbrev isInflight : ℕ → List ℕ
-isInflight g = instantNumbers (instant.Inflight g)
+isInflight g = 0 ∷ 2 ∷ g ∷ []
 
 abbrev isCompleted : ℕ → List ℕ
-isCompleted g = instantNumbers (instant.Completed g)
+isCompleted g = 0 ∷ 3 ∷ g ∷ []
 
 pub traces : List Trace
 traces =
@@ -184,6 +210,7 @@ traces =
     ∷ (decode (0x80 ∷ []) gives 20 ∷ [])
     -- answers: P5 to P9, the 64th start and the 65th
     ∷ (answers fresh p5 gives 0 ∷ 0 ∷ 0 ∷ 0 ∷ 0 ∷ 0 ∷ 0 ∷ 0 ∷ 0 ∷ 1 ∷ 0 ∷ 0 ∷ 5 ∷ [])
+    ∷ (answers fresh p5Swapped gives 0 ∷ 0 ∷ 0 ∷ 0 ∷ 0 ∷ 0 ∷ 0 ∷ 0 ∷ 0 ∷ 1 ∷ 0 ∷ 0 ∷ 5 ∷ [])
     ∷ (answers fresh p6 gives 0 ∷ 0 ∷ 0 ∷ 0 ∷ 0 ∷ 0 ∷ 0 ∷ 0 ∷ 1 ∷ 0 ∷ 0 ∷ 4 ∷ [])
     ∷ (answers fresh p7 gives 0 ∷ 0 ∷ 0 ∷ 0 ∷ 0 ∷ 0 ∷ 0 ∷ 0 ∷ 1 ∷ 0 ∷ 0 ∷ 0 ∷ 0 ∷ 0 ∷ 1 ∷ 0 ∷ 3 ∷ [])
     ∷ (answers fresh p8 gives 0 ∷ 2 ∷ [])
@@ -205,10 +232,18 @@ traces =
     ∷ (history p6 gives 2 ∷ idle 8 ++ committedAt 1 0 (Put 1 10 0))
     ∷ (history p7 gives 3 ∷ idle 8 ++ committedAt 3 0 (Put 0 12 0) ++ committedAt 1 0 (Put 0 10 0))
     ∷ (history p8 gives 1 ∷ idle 8)
+    ∷ (history (startAndAbort 0) gives 1 ∷ idle 8)
     ∷ (history aborts gives 3 ∷ inProgress 3 (Put 1 11 6) ++ idle 7)
     ∷ (history p10
     gives 4 ∷ inProgress 3 (Put 1 11 1) ++ idle 7 ++ committedAt 4 2 (Put 2 21 2) ++ committedAt 2 2 (Put 2 20 2) ++ committedAt 1 1 (Put 1 10 1))
+    ∷ (history beside gives 2 ∷ inProgress 1 (Put 0 10 0) ++ idle 7)
     ∷ (history putAndRemove gives 3 ∷ idle 8 ++ committedAt 3 1 (Remove 1) ++ committedAt 2 1 (Put 1 11 5) ++ committedAt 1 1 (Put 1 10 1))
+    -- what write steps stored: nothing before them; the rows of the base with the key put; also where the operation ends
+    ∷ (stored (take 10 secondPut) 2 5 gives 0 ∷ [])
+    ∷ (stored (take 11 secondPut) 2 5 gives 1 ∷ 10 ∷ [])
+    ∷ (stored secondPut 2 6 gives 1 ∷ 55 ∷ [])
+    ∷ (stored p5 2 1 gives 1 ∷ 11 ∷ [])
+    ∷ (stored p5 2 0 gives 0 ∷ [])
     -- instants: none at 0 and above the last; inflight after an ending with 5 and 4, requested after one with 3 and 2; as they are after an abort
     ∷ (instants fresh p5 (1 ∷ 2 ∷ []) gives isCompleted 0 ++ isInflight 0)
     ∷ (instants fresh p6 (1 ∷ 2 ∷ []) gives isCompleted 0 ++ isInflight 1)
@@ -217,6 +252,8 @@ traces =
     ∷ (instants fresh p8 (1 ∷ []) gives isRequested)
     ∷ (instants fresh aborts (1 ∷ 2 ∷ 3 ∷ []) gives isRequested ++ isInflight 5 ++ isRequested)
     ∷ (instants fresh p10 (1 ∷ 2 ∷ 3 ∷ 4 ∷ []) gives isCompleted 1 ++ isCompleted 2 ++ isRequested ++ isCompleted 2)
+    -- a fresh table
+    ∷ (stands fresh [] 0 0 gives 0 ∷ 0 ∷ 0 ∷ zeros)
     -- a table at each step of an operation: writer 2 puts key 6 in group 3, whose base is timestamp 1
     ∷ (stands fresh (take 8 secondPut) 2 6 gives 2 ∷ 0 ∷ 0 ∷ writerNumbers (busy 1 6 3 2 0))
     ∷ (stands fresh (take 9 secondPut) 2 6 gives 2 ∷ 0 ∷ 0 ∷ writerNumbers (busy 2 6 3 2 0))
@@ -224,24 +261,30 @@ traces =
     ∷ (stands fresh (take 11 secondPut) 2 6 gives 2 ∷ 0 ∷ 0 ∷ writerNumbers (busy 4 6 3 2 1))
     ∷ (stands fresh (take 12 secondPut) 2 6 gives 2 ∷ 3 ∷ 4 ∷ writerNumbers (busy 5 6 3 2 1))
     ∷ (stands fresh (take 13 secondPut) 2 6 gives 2 ∷ 3 ∷ 4 ∷ writerNumbers (busy 6 6 3 2 1))
-    ∷ (stands fresh secondPut 2 6 gives 2 ∷ 0 ∷ 4 ∷ writerNumbers ready)
+    ∷ (stands fresh secondPut 2 6 gives 2 ∷ 0 ∷ 4 ∷ zeros)
     -- a remove carries no value and no group before its look up, and its index step enters nothing
     ∷ (stands fresh (does 2 (Start (Remove 6)) ∷ []) 2 6 gives 1 ∷ 0 ∷ 0 ∷ writerNumbers (removing 1 6 0 1 0))
     ∷ (stands (withWriter (table (withInstants (inflight 0 ∷ []))) 0 (removing 4 6 0 1 0)) (does 0 Index ∷ []) 0 6
     gives 1 ∷ 1 ∷ 0 ∷ writerNumbers (removing 5 6 0 1 0))
     -- after an ending the writer is ready: 5, 4, 3 and 2; it frees its own lock and no other's
-    ∷ (stands fresh p5 1 1 gives 2 ∷ 0 ∷ 1 ∷ writerNumbers ready)
-    ∷ (stands fresh p6 1 1 gives 2 ∷ 0 ∷ 1 ∷ writerNumbers ready)
-    ∷ (stands fresh p7 1 0 gives 3 ∷ 0 ∷ 1 ∷ writerNumbers ready)
-    ∷ (stands fresh p8 0 0 gives 1 ∷ 0 ∷ 0 ∷ writerNumbers ready)
-    ∷ (stands (holding (busy 3 6 0 2 0)) (does 0 Abort ∷ []) 0 6 gives 2 ∷ 6 ∷ 0 ∷ writerNumbers ready)
-    ∷ (stands (holding (busy 5 6 0 1 0)) (does 0 Check ∷ []) 0 6 gives 2 ∷ 6 ∷ 0 ∷ writerNumbers ready)
-    ∷ (stands (holding (busy 6 6 0 2 2)) (does 0 Commit ∷ []) 0 6 gives 2 ∷ 6 ∷ 0 ∷ writerNumbers ready)
-    -- a look up leaves the base, of a key that is indexed or not; a writer whose own timestamp is completed in its group is not too late; a check at the base finds no change
+    ∷ (stands fresh p5 1 1 gives 2 ∷ 0 ∷ 1 ∷ zeros)
+    ∷ (stands fresh p6 1 1 gives 2 ∷ 0 ∷ 1 ∷ zeros)
+    ∷ (stands fresh p7 1 0 gives 3 ∷ 0 ∷ 1 ∷ zeros)
+    ∷ (stands fresh p8 0 0 gives 1 ∷ 0 ∷ 0 ∷ zeros)
+    ∷ (stands (holding (busy 3 6 0 2 0)) (does 0 Abort ∷ []) 0 6 gives 2 ∷ 6 ∷ 0 ∷ zeros)
+    ∷ (stands (holding (busy 5 6 0 1 0)) (does 0 Check ∷ []) 0 6 gives 2 ∷ 6 ∷ 0 ∷ zeros)
+    ∷ (stands (holding (busy 6 6 0 2 2)) (does 0 Commit ∷ []) 0 6 gives 2 ∷ 6 ∷ 0 ∷ zeros)
+    -- a look up leaves the base, of a key that is indexed or not; a read at the writer's own timestamp is not too late; a check at the base is no change
     ∷ (stands (holding (busy 1 6 0 1 2)) (does 0 LookUp ∷ []) 0 6 gives 2 ∷ 6 ∷ 0 ∷ writerNumbers (busy 2 6 0 1 2))
     ∷ (stands (holding (busy 1 5 0 1 2)) (does 0 LookUp ∷ []) 0 5 gives 2 ∷ 6 ∷ 4 ∷ writerNumbers (busy 2 5 3 1 2))
     ∷ (stands (holding (busy 2 6 1 2 0)) (does 0 Read ∷ []) 0 6 gives 2 ∷ 6 ∷ 0 ∷ writerNumbers (busy 3 6 1 2 2))
     ∷ (stands (holding (busy 5 6 1 1 2)) (does 0 Check ∷ []) 0 6 gives 2 ∷ 6 ∷ 0 ∷ writerNumbers (busy 6 6 1 1 2))
+    -- the last timestamp of all counts for a read and for a check
+    ∷ (answers (withWriter (largest 64) 0 (busy 2 31 7 63 0)) (does 0 Read ∷ []) gives 3 ∷ [])
+    ∷ (answers (withWriter (largest 64) 0 (busy 5 31 7 64 63)) (does 0 Check ∷ []) gives 5 ∷ [])
+    -- an index step that holds the lock already
+    ∷ (stands (withWriter (table (withLock (withInstants (inflight 0 ∷ [])) 1)) 0 (busy 4 6 0 1 0)) (does 0 Index ∷ []) 0 6
+    gives 1 ∷ 1 ∷ 1 ∷ writerNumbers (busy 5 6 0 1 0))
     -- the actions at each phase: start, look up, read, write, index, check, commit, abort
     ∷ (eachAnswer (atPhase 0) gives 0 ∷ 14 ∷ 14 ∷ 14 ∷ 14 ∷ 14 ∷ 14 ∷ 14 ∷ [])
     ∷ (eachAnswer (atPhase 1) gives 14 ∷ 0 ∷ 14 ∷ 14 ∷ 14 ∷ 14 ∷ 14 ∷ 6 ∷ [])
@@ -255,6 +298,15 @@ traces =
     (does 8 (Start (Put 32 0 8)) ∷ does 1 (Start (Put 32 0 8)) ∷ does 1 (Start (Remove 32)) ∷ does 1 (Start (Put 31 0 8))
     ∷ does 1 (Start (Put 31 0 7)) ∷ does 0 (Start (Put 31 0 7)) ∷ does 1 Index ∷ does 2 Index ∷ [])
     gives 10 ∷ 12 ∷ 12 ∷ 13 ∷ 14 ∷ 15 ∷ 14 ∷ 16 ∷ [])
+    -- rows: the first place, one between and the last; a write step stores every row of its slice, absent ones with their value, and no other;
+    -- the base is another timestamp, 0, or the writer's own
+    ∷ (place 0 1 0 gives 0 ∷ [])
+    ∷ (place 2 3 4 gives 580 ∷ [])
+    ∷ (place 7 64 31 gives 16383 ∷ [])
+    ∷ (rows staleRows (does 0 Write ∷ []) (0 ∷ 1 ∷ 2 ∷ 256 ∷ 257 ∷ 258 ∷ 288 ∷ []) gives
+    1 ∷ 10 ∷ 0 ∷ 11 ∷ 1 ∷ 12 ∷ 1 ∷ 10 ∷ 0 ∷ 11 ∷ 0 ∷ 7 ∷ 1 ∷ 14 ∷ [])
+    ∷ (rows staleRows (does 1 Write ∷ []) (256 ∷ 257 ∷ 288 ∷ 289 ∷ []) gives 0 ∷ 0 ∷ 1 ∷ 13 ∷ 0 ∷ 0 ∷ 1 ∷ 55 ∷ [])
+    ∷ (rows (withWriter staleRows 0 (busy 3 2 0 2 2)) (does 0 Write ∷ []) (256 ∷ 257 ∷ 258 ∷ []) gives 0 ∷ 0 ∷ 1 ∷ 13 ∷ 1 ∷ 55 ∷ [])
     -- slices stand by file group and timestamp
     ∷ (scanned otherGroupsTimestamp (does 1 Write ∷ []) 1 3 gives 0 ∷ 1 ∷ 0 ∷ 10 ∷ 0 ∷ [])
     ∷ (scanned otherGroupsBase (does 0 Write ∷ does 0 Index ∷ does 0 Check ∷ does 0 Commit ∷ []) 2 6 gives 0 ∷ 2 ∷ 2 ∷ 55 ∷ 0 ∷ 5 ∷ 7 ∷ 1 ∷ [])
