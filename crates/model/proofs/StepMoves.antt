@@ -110,11 +110,11 @@ module _ (u : Execution) (h : Consistent u) (w : ℕ) (there : w < writers) wher
   fits : WriterRanged (sh .last) x
   fits = ranged (u .state) (h .ranged) .writer w there
 
-  issued : x .ts ≤ timestamps
-  issued = omega (arith, fits .ts, ranged (u .state) (h .ranged) .shared .last)
+  ts-fits : x .ts ≤ timestamps
+  ts-fits = omega (arith, fits .ts, ranged (u .state) (h .ranged) .shared .last)
 
-  listed : x .ts ≤ length (sh .timeline)
-  listed = omega (arith, issued, h .lengths .shared .timeline)
+  in-timeline : x .ts ≤ length (sh .timeline)
+  in-timeline = omega (arith, ts-fits, h .lengths .shared .timeline)
 
   writer-path : (y : Writer) → (λ (i : ℕ). getD (set (u .state .writers) w y) i ready) ≡ upd (v .writer) w y
   writer-path y = getD-upd (u .state .writers) w y ready (omega (arith, h .lengths .writers))
@@ -151,14 +151,14 @@ module _ (u : Execution) (h : Consistent u) (w : ℕ) (there : w < writers) wher
       continues (reads _ p (newest-of (sh .timeline) (x .group) (sh .last)) q)
       (view-path _ (afterPhase v w _ _ _ _ _) refl refl refl
       (completed-upd (sh .timeline) _ (x .ts) (inflight (x .group))
-      (instant-set (sh .timeline) (x .ts) (inflight (x .group)) (fits .issued (omega arith)) listed)
+      (instant-set (sh .timeline) (x .ts) (inflight (x .group)) (fits .issued (omega arith)) in-timeline)
       ∙ upd-id (v .completed) (x .ts) _ (h .invariant .writer w .inProgress (omega arith) .uncompleted ∙ sym (inflight-group (x .group) (fits .group))))
       refl (writer-path _) (recorded-taken _ _ _) (stored-unwritten _ _ _ _ refl))
   ruling-moves (hasWritten p) fine =
       let y = moved x 4 (x .group) (x .base) in
       let slices =
-      cell-sliced (sh .present) (sh .values) x (fits .issued (omega arith)) (fits .group) (fits .key) (omega (arith, issued, h .lengths .shared .present))
-      (omega (arith, issued, h .lengths .shared .values)) in
+      cell-sliced (sh .present) (sh .values) x (fits .issued (omega arith)) (fits .group) (fits .key) (omega (arith, ts-fits, h .lengths .shared .present))
+      (omega (arith, ts-fits, h .lengths .shared .values)) in
       continues (writes p)
       (view-path _ (afterPhase v w _ _ _ _ _) refl refl refl refl slices (writer-path y) (recorded-taken _ _ _)
       (stored-written _ _ _ _ refl refl
@@ -173,7 +173,7 @@ module _ (u : Execution) (h : Consistent u) (w : ℕ) (there : w < writers) wher
       (view-path _ (afterPhase v w _ _ _ _ _) refl refl refl refl refl (writer-path _) (recorded-taken _ _ _) (stored-unwritten _ _ _ _ refl))
   ruling-moves (hasCommitted i p is) fine =
       let b = h .invariant .writer w .inProgress (omega arith) in
-      let done = instant-set (sh .timeline) (x .ts) i (fits .issued (omega arith)) listed in
+      let done = instant-set (sh .timeline) (x .ts) i (fits .issued (omega arith)) in-timeline in
       let given = group-given _ (b .pending .ts) (x .group) fine (rw (b .ts, done) (upd-same (instantOf (sh .timeline)) (x .ts) i ∙ is)) in
       commits (b .pending) p (b .is)
       (view-path _ (afterCommit v w (b .pending)) refl refl refl
