@@ -1,9 +1,12 @@
 -- The rows of file slices for any numbers: where a row stands, and what a writer's write step stores.
 use Prim.Native.Nat.{ℕ}
-use mathlib.Core.Bool.{Bool, cond}
+use mathlib.Core.Bool.{Bool, false, cond}
 use mathlib.Core.List.{List, [], _∷_}
+use mathlib.Core.Path.{_≡_}
+use denote.Ref.{now}
 use lib.Dec.{ltb, leb}
 use Rattle.common.specs.Counting.{every}
+use Rattle.common.specs.Lent.{Lent}
 use Rattle.model.specs.Limits.{keys, groups, timestamps, rows}
 use Rattle.model.specs.State.{rowAt}
 use Rattle.model.specs.Rules.{sliced}
@@ -20,3 +23,9 @@ namesSlice x = every (ltb (x .group) groups ∷ leb (x .base) timestamps ∷ leb
 -- the rows with a writer's slice stored, v at its key (document 01, A writer's walk, 4); as they were where its numbers name no slice
 unfoldable pub rowsStored : {A : Type 0} → A → List A → Writer → A → List A
 rowsStored absent rows x v = cond (namesSlice x) (sliced absent rows (x .group) (x .base) (x .ts) (x .key) v) rows
+
+-- a call stores a writer's slice in both lent arrays: whether its key is present, and the value
+abbrev pub StoresSlice : Writer → Lent Bool → Lent ℕ → Type 0
+StoresSlice x present values =
+    (now (present .exit) ≡ rowsStored false (now (present .entry)) x (x .put))
+    × (now (values .exit) ≡ rowsStored 0 (now (values .entry)) x (x .value))

@@ -4,7 +4,7 @@ ghost use mathlib.Core.Bool.{false};
 ghost use Prim.Native.Nat.{_<_, _≤_};
 ghost use Rattle.model.specs.Limits.{keys, groups, timestamps};
 ghost use Rattle.model.specs.Rules.{copied, sliced};
-ghost use Rattle.slices.specs.Slices.{namesSlice, rowsStored};
+ghost use Rattle.slices.specs.Slices.{namesSlice, StoresSlice};
 use crate::places::row_at;
 use model::Value;
 use model::Writer;
@@ -132,7 +132,7 @@ fn names_slice(x: Writer) -> bool
 // Stores the slice of a writer's operation: a put makes its key present with its value, a remove absent.
 // Nothing is stored where one of the writer's numbers is out of range.
 pub fn store_slice(present: &mut [bool; ROWS], values: &mut [Value; ROWS], x: Writer)
-    ensures { λ _. ⌜ (now (present .exit) ≡ rowsStored false (now (present .entry)) x (x .put)) × (now (values .exit) ≡ rowsStored 0 (now (values .entry)) x (x .value)) ⌝ }
+    ensures { λ _. ⌜ StoresSlice x present values ⌝ }
 {
     if !names_slice(x) {
         return;

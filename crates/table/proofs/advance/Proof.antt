@@ -3,7 +3,7 @@ use mathlib.Core.Path.{ap, _∙_}
 use denote.Ref.{now}
 use Rattle.model.specs.State.{stateOf}
 use Rattle.model.specs.Rules.{answered, updated}
-use Rattle.table.proofs.Parts.{parts-step}
+use Rattle.rules.proofs.Parts.{parts-step}
 use borrow.Author.Needs.{needs}
 use Rattle.table.proofs.advance.Statement.{statement}
 use Rattle.table.proofs.advance.Tie as tie

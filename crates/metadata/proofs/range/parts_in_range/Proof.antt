@@ -60,7 +60,23 @@ largest-requires-3 c κs = search needs
 
 returns-6 : tie.Need-returns-6
 unfolding inRange
-returns-6 c = let i : length (now (c .before .before .before .before .before .before .before .before .before .before .before .before .args .index)) ≡ keys = search needs in let l : length (now (c .before .before .before .before .before .before .before .before .before .before .before .before .args .timeline)) ≡ timestamps = search needs in λ s. rw (le-leb _ _ (c .before .before .before .before .before .before .before .before .before .before .before .if1 .left), le-leb _ _ (c .before .before .before .before .before .before .before .before .before .before .if2 .left), sym (c .before .before .before .before .before .before .before .before .before .writers-in-range .ensures) ∙ not-false _ (c .before .before .before .before .before .before .before .before .if3 .left), index-largest _ (c .before .before .before .before .before .before .largest .ensures) i ∙ le-leb _ _ (c .before .before .before .before .before .if4 .left), instants-largest _ (c .before .before .before .largest2 .ensures) l ∙ lt-ltb _ _ (c .before .before .if5 .left), above-largest _ _ (c .largest3 .ensures) l, and-true)
+returns-6 c =
+    let f = c .before .before in
+    let e = f .before .before .before in
+    let w = e .before .before .before in
+    let a = w .before .before .before .before .args in
+    let i : length (now (a .index)) ≡ keys = search needs in
+    let l : length (now (a .timeline)) ≡ timestamps = search needs in
+    λ s.
+    rw (
+      le-leb _ _ (w .before .before .before .if1 .left),
+      le-leb _ _ (w .before .before .if2 .left),
+      sym (w .before .writers-in-range .ensures) ∙ not-false _ (w .if3 .left),
+      index-largest _ (e .before .largest .ensures) i ∙ le-leb _ _ (e .if4 .left),
+      instants-largest _ (f .before .largest2 .ensures) l ∙ lt-ltb _ _ (f .if5 .left),
+      above-largest _ _ (c .largest3 .ensures) l,
+      and-true,
+    )
 
 pub parts-in-range-spec : {M : Type 1} → statement M
 parts-in-range-spec =

@@ -43,7 +43,8 @@ loop-less : tie.Need-loop-less Inv-loop μ-loop
 loop-less c = search needs
 
 loop-again : tie.Need-loop-again Inv-loop μ-loop
-loop-again c = (omega arith, below-more _ _ (c .before .before .before .before .loop .inv .1) (sym (c .before .writer-in-range .ensures) ∙ not-false _ (c .if1 .left)))
+loop-again c =
+    (omega arith, below-more _ _ (c .before .before .before .before .loop .inv .1) (sym (c .before .writer-in-range .ensures) ∙ not-false _ (c .if1 .left)))
 
 returns-2 : tie.Need-returns-2 Inv-loop μ-loop
 unfolding writersInRange

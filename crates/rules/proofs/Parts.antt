@@ -1,0 +1,42 @@
+-- `parts-step`: on the parts of a table, with the result of its range test, `actOnParts` is a step of the table.
+use Prim.Native.Nat.{ℕ, _<_}
+use mathlib.Core.Bool.{Bool, true, false, and-eq-true-iff}
+use mathlib.Core.Path.{_≡_, refl, ap}
+use lib.ListN.{getD}
+use lib.Seq.{set-getD}
+use lib.Dec.{leb}
+use borrow.Author.Tests.{leb-false, lt-ltb}
+use Rattle.model.specs.Limits.{writers}
+use Rattle.model.specs.State.{State, ready}
+use Rattle.model.specs.Range.{writerInRange, writersInRange, inRange}
+use Rattle.model.specs.Rules.{outcome, Answered, answered, updated, stepTested, step}
+use Rattle.model.specs.declared.Step.{Step}
+use Rattle.common.proofs.EachBelow.{below-iff}
+use Rattle.rules.specs.Parts.{slotOf, actOnParts}
+use Rattle.metadata.specs.Actor.{actorInRange}
+
+-- in a state in range, each of its writers is an actor in range
+actor : (st : State) (w : ℕ) → inRange st ≡ true → w < writers → actorInRange (st .shared .last) (getD (st .writers) w ready) ≡ true
+unfolding inRange writersInRange
+actor st w e l =
+    let (last, (lock, (own, others))) = simp and-eq-true-iff at e in
+    let x : writerInRange (st .shared .last) (getD (st .writers) w ready) ≡ true = below-iff writers _ .0 own w l in
+    rw (last, x)
+
+-- a record stored where it stands changes nothing
+same : (st : State) (w n : ℕ) → updated st w (outcome n (getD (st .writers) w ready) (st .shared)) ≡ answered n st
+same st w n = ap (λ ws. answered n (record { shared = st .shared; writers = ws })) (set-getD (st .writers) w ready)
+
+module _ (st : State) (s : Step) where
+  -- the step on the parts, and its outcome in the whole state
+  abbrev onParts : Answered
+  onParts = updated st (slotOf (s .writer)) (actOnParts (inRange st) (getD (st .writers) (slotOf (s .writer)) ready) (st .shared) s)
+
+  pub parts-step : onParts ≡ step st s
+  unfolding step stepTested actOnParts
+  parts-step = go (inRange st) (leb writers (s .writer)) refl refl
+    where
+      go : (tested past : Bool) → inRange st ≡ tested → leb writers (s .writer) ≡ past → onParts ≡ stepTested (inRange st) st s
+      go false past e h = rw e (same st _ _)
+      go true true e h = rw (e, h) (same st _ _)
+      go true false e h = let l = leb-false writers (s .writer) h in rw (e, h, lt-ltb _ _ l, actor st (s .writer) e l)

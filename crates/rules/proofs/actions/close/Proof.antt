@@ -1,0 +1,41 @@
+-- `close` meets its contract, by cases of the verdict.
+use borrow.Author.Needs.{needs}
+use Rattle.rules.proofs.actions.close.Statement.{statement}
+use Rattle.rules.proofs.actions.close.Tie as tie
+
+enum-known-v : tie.Need-enum-known-v
+enum-known-v c = search needs
+
+enum-known-v-2 : tie.Need-enum-known-v-2
+enum-known-v-2 c = search needs
+
+released-requires : tie.Need-released-requires
+released-requires c κs = search needs
+
+ready-requires : tie.Need-ready-requires
+ready-requires c κs = search needs
+
+enum-known-v-3 : tie.Need-enum-known-v-3
+enum-known-v-3 c = search needs
+
+returns : tie.Need-returns
+returns c = λ s. record { same = rw (c .before .v .given .1) }
+
+returns-2 : tie.Need-returns-2
+returns-2 c = λ s. record { same = rw (c .before .before .before .before .v2 .given .1, c .ready .ensures, c .before .released .ensures) }
+
+returns-3 : tie.Need-returns-3
+returns-3 c = λ s. record { same = rw (c .before .v3 .given .1) }
+
+pub close-spec : {M : Type 1} → statement M
+close-spec =
+    tie.close
+    (tie.spec
+    enum-known-v
+    enum-known-v-2
+    released-requires
+    ready-requires
+    enum-known-v-3
+    returns
+    returns-2
+    returns-3)

@@ -1,0 +1,39 @@
+-- One step on the parts of a table: what the public call `act` gives to a caller that keeps a table in parts and has tested its range before.
+-- Document 01 has no such call. Where the test given is the table's own, it is a step of document 01 (`parts-step` in proofs/Parts.antt).
+use Prim.Native.Nat.{ℕ, _<_}
+use mathlib.Core.Path.{_≡_}
+use mathlib.Core.Bool.{Bool, cond, not}
+use lib.Dec.{ltb, leb}
+use Rattle.model.specs.Limits.{writers}
+use Rattle.model.specs.Answers.{noWriter, outOfRange}
+use Rattle.model.specs.State.{Shared}
+use Rattle.model.specs.Rules.{Outcome, outcome, act}
+use Rattle.model.specs.declared.Writer.{Writer}
+use Rattle.model.specs.declared.Step.{Step}
+use Rattle.metadata.specs.Actor.{actorInRange}
+use Rattle.rules.specs.Fields.{Fields}
+use Rattle.rules.specs.declared.actions.Acted.{Acted}
+
+-- the place of a writer's record: that of its number, or the first for a number past the last
+abbrev pub slotOf : ℕ → ℕ
+slotOf w = cond (ltb w writers) w 0
+
+pub record Slot (w r : ℕ) : Type 0 where
+  pub is : r ≡ slotOf w
+  pub small : r < writers
+
+-- a step on the parts of a table, where `tested` is the result of its range test and x stands at the writer's place: 17, 10, then the action
+-- (document 01, Answer numbers). An actor that is out of range although `tested` says otherwise is answered 17 too
+unfoldable pub actOnParts : Bool → Writer → Shared → Step → Outcome
+actOnParts tested x s p =
+    cond (not tested) (outcome outOfRange x s)
+    (cond (leb writers (p .writer)) (outcome noWriter x s)
+    (cond (not (actorInRange (s .last) x)) (outcome outOfRange x s) (act x (p .writer) s (p .action))))
+
+-- what an action gave, with the shared part after it
+abbrev pub outcomeOf : Acted → Shared → Outcome
+outcomeOf r s = outcome (r .answer) (r .writer) s
+
+-- a call that gave r, and takes these fields, gives what f says of the shared part before it
+abbrev pub OutcomeIs : Acted → Fields → (Shared → Outcome) → Type 0
+OutcomeIs r fields f = (s : Shared) → outcomeOf r (fields .after s) ≡ f (fields .before s)

@@ -1,0 +1,347 @@
+// The rules of the eight actions, each on the writer's own record and on what it takes of the shared part; and the one place where an
+// operation ends. The numbers are those of document 01, A writer's walk.
+ghost use mathlib.Core.Path.{_≡_};
+ghost use mathlib.Core.Bool.{cond};
+ghost use Prim.Native.Nat.{_+_, _<_};
+ghost use Rattle.model.specs.Limits.{writers, keys, groups};
+ghost use Rattle.model.specs.State.{Shared, withLast, withLock, withIndex, withTimeline, withPresent, withValues};
+ghost use Rattle.model.specs.State as state;
+ghost use Rattle.model.specs.Rules as rules;
+ghost use Rattle.rules.specs.Fields.{noField, reading, changing, together, allFields};
+ghost use Rattle.rules.specs.Inner.{Bounds, Follows, CarriesOut};
+use common::Word;
+use metadata::newest_of;
+use model::Action;
+use model::Operation;
+use model::Value;
+use model::Writer;
+use model::answers::ABORTED;
+use model::answers::COMMITTED;
+use model::answers::GROUP_CHANGED;
+use model::answers::LOCKED;
+use model::answers::NO_GROUP;
+use model::answers::NO_KEY;
+use model::answers::NO_TIMESTAMP;
+use model::answers::NOT_INDEXED;
+use model::answers::OTHER_GROUP;
+use model::answers::TAKEN;
+use model::answers::TOO_LATE;
+use model::answers::WRONG_PHASE;
+use model::instants::COMPLETED;
+use model::instants::INFLIGHT;
+use model::instants::REQUESTED;
+use model::limits::GROUPS;
+use model::limits::KEYS;
+use model::limits::ROWS;
+use model::limits::TIMESTAMPS;
+use slices::store_slice;
+
+// What a rule says of a step: it is refused, or the operation ends, or the writer goes on as the record given.
+pub enum Verdict {
+    Refused(u8),
+    Ended(u8),
+    GoesOn(Writer),
+}
+
+// What an action gave: its answer, and the writer's record after it.
+pub struct Acted {
+    pub answer: u8,
+    pub writer: Writer,
+}
+
+// A writer with no operation.
+pub fn ready() -> Writer
+    ensures { λ r. ⌜ r ≡ state.ready ⌝ }
+{
+    Writer {
+        phase: 0,
+        put: false,
+        key: 0,
+        group: 0,
+        ts: 0,
+        base: 0,
+        value: 0,
+    }
+}
+
+// A writer at its next phase, with a file group and a base.
+fn moved(x: Writer, phase: u8, group: u8, base: u8) -> Writer
+    ensures { λ r. ⌜ r ≡ rules.moved x phase group base ⌝ }
+{
+    Writer {
+        phase,
+        put: x.put,
+        key: x.key,
+        group,
+        ts: x.ts,
+        base,
+        value: x.value,
+    }
+}
+
+// An operation's key.
+fn key_of(op: Operation) -> Word
+    ensures { λ r. ⌜ r ≡ rules.keyOf op ⌝ }
+{
+    match op {
+        Operation::Put {
+            key,
+            value: _,
+            group: _,
+        } => key,
+        Operation::Remove { key } => key,
+    }
+}
+
+// The file group that a put proposes.
+fn group_of(op: Operation) -> Word
+    ensures { λ r. ⌜ r ≡ rules.groupOf op ⌝ }
+{
+    match op {
+        Operation::Put {
+            key: _,
+            value: _,
+            group,
+        } => group,
+        Operation::Remove { key: _ } => 0,
+    }
+}
+
+// A writer that starts an operation under a timestamp.
+fn begin(op: Operation, ts: u8) -> Writer
+    requires { ⌜ (rules.keyOf op < keys) × (rules.groupOf op < groups) ⌝ }
+    ensures { λ r. ⌜ r ≡ rules.begun op ts ⌝ }
+{
+    match op {
+        Operation::Put { key, value, group } => Writer {
+            phase: 1,
+            put: true,
+            key: key as u8,
+            group: group as u8,
+            ts,
+            base: 0,
+            value,
+        },
+        Operation::Remove { key } => Writer {
+            phase: 1,
+            put: false,
+            key: key as u8,
+            group: 0,
+            ts,
+            base: 0,
+            value: 0,
+        },
+    }
+}
+
+// 1. Start: the next timestamp is issued, its instant requested.
+fn start(x: Writer, op: Operation, last: &mut u8, timeline: &mut [u8; TIMESTAMPS]) -> Verdict
+    ensures { λ r. ⌜ Follows x r (together (changing withLast last) (changing withTimeline timeline)) (λ s. rules.start x s op) ⌝ }
+{
+    let key = key_of(op);
+    let group = group_of(op);
+    if key >= KEYS as Word {
+        return Verdict::Refused(NO_KEY);
+    }
+    if group >= GROUPS as Word {
+        return Verdict::Refused(NO_GROUP);
+    }
+    if x.phase != 0 {
+        return Verdict::Refused(WRONG_PHASE);
+    }
+    let issued = *last;
+    if issued >= TIMESTAMPS as u8 {
+        return Verdict::Refused(NO_TIMESTAMP);
+    }
+    let slot = issued as usize;
+    timeline[slot] = REQUESTED;
+    let ts = issued + 1;
+    *last = ts;
+    Verdict::GoesOn(begin(op, ts))
+}
+
+// 2. Look up: the file group that the index has for the key, or the one that a put proposes.
+fn look_up(x: Writer, index: &[u8; KEYS]) -> Verdict
+    requires { ⌜ Bounds x ⌝ }
+    ensures { λ r. ⌜ Follows x r (reading withIndex (now (index .entry))) (rules.lookUp x) ⌝ }
+{
+    if x.phase != 1 {
+        return Verdict::Refused(WRONG_PHASE);
+    }
+    let key = x.key as usize;
+    let entry = index[key];
+    if entry != 0 {
+        return Verdict::GoesOn(moved(x, 2, entry - 1, x.base));
+    }
+    if x.put {
+        return Verdict::GoesOn(moved(x, 2, x.group, x.base));
+    }
+    Verdict::Ended(NOT_INDEXED)
+}
+
+// 3. Read: the base is the file group's newest completed timestamp, unless that is above the writer's own; the instant is inflight.
+fn read_base(x: Writer, last: u8, timeline: &mut [u8; TIMESTAMPS]) -> Verdict
+    requires { ⌜ Bounds x ⌝ }
+    ensures { λ r. ⌜ Follows x r (together (reading withLast last) (changing withTimeline timeline)) (rules.readBase x) ⌝ }
+{
+    if x.phase != 2 {
+        return Verdict::Refused(WRONG_PHASE);
+    }
+    let base = newest_of(&*timeline, x.group, last);
+    if x.ts < base {
+        return Verdict::Ended(TOO_LATE);
+    }
+    let slot = (x.ts - 1) as usize;
+    timeline[slot] = INFLIGHT + x.group;
+    Verdict::GoesOn(moved(x, 3, x.group, base))
+}
+
+// 4. Write: the slice is stored; no reader sees it before the commit.
+fn write_slice(x: Writer, present: &mut [bool; ROWS], values: &mut [Value; ROWS]) -> Verdict
+    requires { ⌜ Bounds x ⌝ }
+    ensures { λ r. ⌜ Follows x r (together (changing withPresent present) (changing withValues values)) (rules.writeSlice x) ⌝ }
+{
+    if x.phase != 3 {
+        return Verdict::Refused(WRONG_PHASE);
+    }
+    store_slice(&mut *present, &mut *values, x);
+    Verdict::GoesOn(moved(x, 4, x.group, x.base))
+}
+
+// Does a lock or an index entry, 0 for none and n + 1 for n, name another than n?
+fn names_other(entry: u8, n: u8) -> bool
+    requires { ⌜ n < 255 ⌝ }
+    ensures { λ r. ⌜ r ≡ rules.namesOther entry n ⌝ }
+{
+    if entry == 0 {
+        return false;
+    }
+    entry != n + 1
+}
+
+// The index entry of a key after an operation of a file group: a put enters the group, a remove leaves the entry.
+fn entry_after(put: bool, group: u8, entry: u8) -> u8
+    requires { ⌜ group < groups ⌝ }
+    ensures { λ r. ⌜ r ≡ cond put (group + 1) entry ⌝ }
+{
+    if put { group + 1 } else { entry }
+}
+
+// 5. Index: writer w takes the lock and enters a put's key, unless the lock is another writer's or the key another group's.
+fn enter_index(x: Writer, w: u8, lock: &mut u8, index: &mut [u8; KEYS]) -> Verdict
+    requires { ⌜ (w < writers) × Bounds x ⌝ }
+    ensures { λ r. ⌜ Follows x r (together (changing withLock lock) (changing withIndex index)) (rules.enterIndex x w) ⌝ }
+{
+    if x.phase != 4 {
+        return Verdict::Refused(WRONG_PHASE);
+    }
+    let held = *lock;
+    if names_other(held, w) {
+        return Verdict::Refused(LOCKED);
+    }
+    let key = x.key as usize;
+    let entry = index[key];
+    if names_other(entry, x.group) {
+        return Verdict::Ended(OTHER_GROUP);
+    }
+    index[key] = entry_after(x.put, x.group, entry);
+    *lock = w + 1;
+    Verdict::GoesOn(moved(x, 5, x.group, x.base))
+}
+
+// 6. Check: nothing was completed in the file group above the base.
+fn check_conflict(x: Writer, last: u8, timeline: &[u8; TIMESTAMPS]) -> Verdict
+    ensures { λ r. ⌜ Follows x r (together (reading withLast last) (reading withTimeline (now (timeline .entry)))) (rules.checkConflict x) ⌝ }
+{
+    if x.phase != 5 {
+        return Verdict::Refused(WRONG_PHASE);
+    }
+    if x.base < newest_of(timeline, x.group, last) {
+        return Verdict::Ended(GROUP_CHANGED);
+    }
+    Verdict::GoesOn(moved(x, 6, x.group, x.base))
+}
+
+// 7. Commit: the instant is completed, and readers see its slice.
+fn commit(x: Writer, timeline: &mut [u8; TIMESTAMPS]) -> Verdict
+    requires { ⌜ Bounds x ⌝ }
+    ensures { λ r. ⌜ Follows x r (changing withTimeline timeline) (rules.commit x) ⌝ }
+{
+    if x.phase != 6 {
+        return Verdict::Refused(WRONG_PHASE);
+    }
+    let slot = (x.ts - 1) as usize;
+    timeline[slot] = COMPLETED + x.group;
+    Verdict::Ended(COMMITTED)
+}
+
+// 8. Abort, document 01's give up: the operation ends at any phase.
+fn abort(x: Writer) -> Verdict
+    ensures { λ r. ⌜ Follows x r noField (rules.abort x) ⌝ }
+{
+    if x.phase == 0 {
+        return Verdict::Refused(WRONG_PHASE);
+    }
+    Verdict::Ended(ABORTED)
+}
+
+// The verdict of the rules on an action of writer w, whose own record is x.
+pub fn decide(
+    x: Writer,
+    w: u8,
+    action: Action,
+    last: &mut u8,
+    lock: &mut u8,
+    index: &mut [u8; KEYS],
+    timeline: &mut [u8; TIMESTAMPS],
+    present: &mut [bool; ROWS],
+    values: &mut [Value; ROWS],
+) -> Verdict
+    requires { ⌜ (w < writers) × Bounds x ⌝ }
+    ensures { λ r. ⌜ Follows x r (allFields last lock index timeline present values) (λ s. rules.ruled x w s action) ⌝ }
+{
+    match action {
+        Action::Start(op) => start(x, op, &mut *last, &mut *timeline),
+        Action::LookUp => look_up(x, &*index),
+        Action::Read => read_base(x, *last, &mut *timeline),
+        Action::Write => write_slice(x, &mut *present, &mut *values),
+        Action::Index => enter_index(x, w, &mut *lock, &mut *index),
+        Action::Check => check_conflict(x, *last, &*timeline),
+        Action::Commit => commit(x, &mut *timeline),
+        Action::Abort => abort(x),
+    }
+}
+
+// The lock after writer w has let go of it.
+fn released(lock: u8, w: u8) -> u8
+    requires { ⌜ w < writers ⌝ }
+    ensures { λ r. ⌜ r ≡ rules.released lock w ⌝ }
+{
+    if lock == w + 1 { 0 } else { lock }
+}
+
+// A verdict carried out for writer w. Every operation that ends or commits closes here: its writer is ready, and the lock free if the writer
+// held it.
+pub fn close(v: Verdict, x: Writer, w: u8, lock: &mut u8) -> Acted
+    requires { ⌜ w < writers ⌝ }
+    ensures { λ r. ⌜ ((s : Shared) → CarriesOut x w v (withLock s (now (lock .entry))) r (withLock s (now (lock .exit)))) ⌝ }
+{
+    match v {
+        Verdict::Refused(n) => Acted {
+            answer: n,
+            writer: x,
+        },
+        Verdict::Ended(n) => {
+            let held = *lock;
+            *lock = released(held, w);
+            Acted {
+                answer: n,
+                writer: ready(),
+            }
+        }
+        Verdict::GoesOn(y) => Acted {
+            answer: TAKEN,
+            writer: y,
+        },
+    }
+}
