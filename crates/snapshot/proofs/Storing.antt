@@ -25,8 +25,8 @@ use Rattle.snapshot.specs.Inner.{Slices, sliceIn, HasPlace, hasRow, rows
 use Rattle.snapshot.proofs.ShownRows.{shown-place, shown-row, shown-none, key-count, numbers-below, numbers-length}
 
 -- the row that file group g shows of key k, where it shows one
-abbrev pub rowOf : List ℕ → List ℕ → ℕ → ℕ → Row
-rowOf slices values k g = row k (rowIn 0 values g (getD slices g 0) k) g
+abbrev pub rowShown : List ℕ → List ℕ → ℕ → ℕ → Row
+rowShown slices values k g = row k (rowIn 0 values g (getD slices g 0) k) g
 
 -- the parts of a listing: the numbers of each key's rows, and of a key's row in each file group from `from` on
 abbrev pub keyPart : List ℕ → List Bool → List ℕ → ℕ → List ℕ
@@ -100,7 +100,7 @@ module _ {slices values old new : List ℕ} {present : List Bool} {k from at lef
     others-skip e = others-next (shown-none slices present values (s .key) others-inside e) (omega arith) (none-pasted new next)
 
     module _ (e : hasRow slices present k g ≡ true) where
-      shown-here : shown present values (sliceIn slices) k g ≡ rowOf slices values k g ∷ []
+      shown-here : shown present values (sliceIn slices) k g ≡ rowShown slices values k g ∷ []
       shown-here = shown-row slices present values (s .key) others-inside e
 
       pub others-ask : HasPlace g (getD slices g 0) k × (next + 3 ≤ length new)
@@ -110,7 +110,7 @@ module _ {slices values old new : List ℕ} {present : List Bool} {k from at lef
         omega (arith, part-fits (s .putting) turn, ap length (here shown-here)),
       )
 
-      pub others-row : {new′ : List ℕ} {next′ : ℕ} → PastedTo new next (numbers (rowOf slices values k g ∷ [])) next′ new′
+      pub others-row : {new′ : List ℕ} {next′ : ℕ} → PastedTo new next (numbers (rowShown slices values k g ∷ [])) next′ new′
           → StoringOthers slices present values k from at old new′ (left - 1) next′ (g + 1)
       others-row t = others-next shown-here (omega arith) t
 
@@ -135,7 +135,7 @@ module _ {slices values : List ℕ} {present : List Bool} {k count lowest at roo
         (λ m. let e : lowest ≡ groups = omega (arith, h .low .small) in absurd (omega (arith, h .all, ap length (rw e at hidden))))
 
     -- the first row, and the others
-    all-rows : rowsOf present values (sliceIn slices) k ≡ rowOf slices values k lowest ∷ rowsFrom present values (sliceIn slices) k (lowest + 1)
+    all-rows : rowsOf present values (sliceIn slices) k ≡ rowShown slices values k lowest ∷ rowsFrom present values (sliceIn slices) k (lowest + 1)
     all-rows =
         list-rest (lowest + 1) groups shows (omega (arith, key-inside))
         ∙ rw (list-more lowest shows, hidden, shown-row slices present values (h .key) key-inside (h .low .here key-inside))
@@ -144,11 +144,11 @@ module _ {slices values : List ℕ} {present : List Bool} {k count lowest at roo
     key-first = (shown-place slices present values (h .key) key-inside (h .slice) (h .low .here key-inside), omega (arith, h .fits))
 
     module _ (buffer : List ℕ) (size : room ≡ length buffer) {next : ℕ} {new : List ℕ}
-        (first : PastedTo buffer at (numbers (rowOf slices values k lowest ∷ [])) next new) where
+        (first : PastedTo buffer at (numbers (rowShown slices values k lowest ∷ [])) next new) where
       pub key-others : OthersFit slices present values k (lowest + 1) (count - 1) next (length new)
       unfolding numbers
       key-others =
-          let kept = pasted-length buffer at (numbers (rowOf slices values k lowest ∷ [])) (omega (arith, h .fits)) in
+          let kept = pasted-length buffer at (numbers (rowShown slices values k lowest ∷ [])) (omega (arith, h .fits)) in
           record {
             slice = h .slice;
             key = h .key;
@@ -163,7 +163,7 @@ module _ {slices values : List ℕ} {present : List Bool} {k count lowest at roo
       key-end others =
           let fits : at + length (keyPart slices present values k) ≤ length buffer
           = omega (arith, h .fits, h .all, numbers-length (rowsOf present values (sliceIn slices) k)) in
-          rw all-rows (last-joined (both-fit (numbers (rowOf slices values k lowest ∷ [])) _ (rw all-rows at fits)) first others)
+          rw all-rows (last-joined (both-fit (numbers (rowShown slices values k lowest ∷ [])) _ (rw all-rows at fits)) first others)
 
 -- the rows of all keys
 module _ (slices : List ℕ) (present : List Bool) (values : List ℕ) where

@@ -55,7 +55,7 @@ pub record ForKeys (xs ys : List ℕ) : Type 0 where
 pub record SliceCounted (present : List Bool) (from g : ℕ) (counts lowest counts′ lowest′ : List ℕ) : Type 0 where
   pub count : (k : ℕ) → k < keys → getD counts′ k 0 ≡ countWith (getD present (from + k) false) (getD counts k 0)
   pub low : (k : ℕ) → k < keys → getD lowest′ k 0 ≡ lowestWith (getD present (from + k) false) g (getD lowest k 0)
-  pub sized : ForKeys counts′ lowest′
+  pub forKeys : ForKeys counts′ lowest′
 
 -- l is the lowest number below n of which a test holds, or `groups` if there is none
 pub record Lowest (test : ℕ → Bool) (n l : ℕ) : Type 0 where

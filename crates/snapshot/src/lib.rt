@@ -7,7 +7,7 @@ ghost use mathlib.Core.Bool.{Bool};
 ghost use mathlib.Core.List.{List};
 ghost use Prim.Native.Nat.{ℕ};
 ghost use Rattle.model.specs.State.{stateOf};
-ghost use Rattle.model.specs.Snapshot.{scan, pointRead, foundNumbers, instantOf, instantState, instantAt, instantNumbers};
+ghost use Rattle.model.specs.Snapshot.{unlisted, scan, pointRead, foundNumbers, instantOf, instantState, instantAt, instantNumbers};
 ghost use Rattle.model.specs.Calls.{stateBefore, scanned};
 use common::Word;
 use metadata::in_range;
@@ -28,6 +28,13 @@ use model::limits::KEYS;
 use model::limits::ROWS;
 use model::limits::TIMESTAMPS;
 
+// A scan that is refused: it counts no row and leaves the buffer as it is.
+fn refused(answer: u8, buffer: &mut [Word]) -> Scanned
+    ensures { λ r. ⌜ scanned r buffer ≡ unlisted answer (now (buffer .entry)) ⌝ }
+{
+    Scanned { answer, count: 0 }
+}
+
 // The rows at a timestamp, three numbers each, into a lent buffer.
 pub fn scan(
     t: Table,
@@ -39,10 +46,7 @@ pub fn scan(
     ensures { λ r. ⌜ scanned r buffer ≡ scan (stateBefore t present values) at (now (buffer .entry)) ⌝ }
 {
     if !in_range(t) {
-        return Scanned {
-            answer: OUT_OF_RANGE,
-            count: 0,
-        };
+        return refused(OUT_OF_RANGE, buffer);
     }
     let timeline = t.timeline;
     let slices = newest::newest_of_groups(timeline, at);
@@ -50,10 +54,7 @@ pub fn scan(
     let counts = shown.counts;
     let count = rows::total(counts);
     if buffer.len() < 3 * count {
-        return Scanned {
-            answer: NO_ROOM,
-            count: 0,
-        };
+        return refused(NO_ROOM, buffer);
     }
     rows::store(slices, present, values, shown, buffer);
     Scanned {

@@ -13,8 +13,17 @@ use Rattle.snapshot.proofs.scan.Tie as tie
 in-range-requires : tie.Need-in-range-requires
 in-range-requires c κs = search needs
 
+refused-requires : tie.Need-refused-requires
+refused-requires c κs = search needs
+
+same-length : tie.Need-same-length
+same-length c = search needs
+
 returns : tie.Need-returns
-returns c = scan-refused _ _ _ (sym (c .before .in-range .ensures _ _) ∙ not-true _ (c .if1 .taken))
+returns c =
+    let refused = c .before .before in
+    let tested = refused .before .before in
+    refused .refused .ensures ∙ scan-refused _ _ _ (sym (tested .before .in-range .ensures _ _) ∙ not-true _ (tested .if1 .taken))
 
 newest-of-groups-requires : tie.Need-newest-of-groups-requires
 newest-of-groups-requires c κs =
@@ -30,14 +39,23 @@ total-requires c κs = counted-le _ _ (c .before .count-slices .ensures) (omega 
 mul-if2 : tie.Need-mul-if2
 mul-if2 c = search needs
 
+refused-requires-2 : tie.Need-refused-requires-2
+refused-requires-2 c κs = search needs
+
+same-length-2 : tie.Need-same-length-2
+same-length-2 c = search needs
+
 returns-2 : tie.Need-returns-2
 returns-2 c =
-    let summed = c .before in
+    let refused = c .before .before in
+    let room = refused .before .before in
+    let summed = room .before in
     let counted = summed .before .before in
     let newest = counted .before in
     let tested = newest .before .before in
-    scan-full _ _ (newest .newest-of-groups .ensures) (counted .count-slices .ensures) (summed .total .ensures .0)
-    (sym (tested .before .in-range .ensures _ _) ∙ not-false _ (tested .if1 .left)) _ (c .if2 .taken)
+    refused .refused2 .ensures
+    ∙ scan-full _ _ (newest .newest-of-groups .ensures) (counted .count-slices .ensures) (summed .total .ensures .0)
+    (sym (tested .before .in-range .ensures _ _) ∙ not-false _ (tested .if1 .left)) _ (room .if2 .taken)
 
 store-requires : tie.Need-store-requires
 store-requires c κs =
@@ -49,8 +67,8 @@ store-requires c κs =
     all-fit (stateOf (start .args .t) _ _) _ (newest .newest-of-groups .ensures) (counted .count-slices .ensures) (summed .total .ensures .0)
     (room .if2 .left)
 
-same-length : tie.Need-same-length
-same-length c = search needs
+same-length-3 : tie.Need-same-length-3
+same-length-3 c = search needs
 
 returns-3 : tie.Need-returns-3
 returns-3 c =
@@ -67,12 +85,16 @@ scan-spec =
     tie.close
     (tie.spec
     in-range-requires
+    refused-requires
+    same-length
     returns
     newest-of-groups-requires
     count-slices-requires
     total-requires
     mul-if2
+    refused-requires-2
+    same-length-2
     returns-2
     store-requires
-    same-length
+    same-length-3
     returns-3)

@@ -74,7 +74,7 @@ returns c =
     record {
       count = change-end counts (omega arith);
       low = change-end lowest (omega arith);
-      sized = record { counts = counts .size; lowest = lowest .size };
+      forKeys = record { counts = counts .size; lowest = lowest .size };
     }
 
 pub count-slice-spec : {M : Type 1} → statement M

@@ -57,7 +57,7 @@ loop-again c =
     let shown = found .before in
     let turn = shown .before .before in (
       omega arith,
-      c .count-slice .ensures .sized,
+      c .count-slice .ensures .forKeys,
       counted-next _ _ (turn .loop .inv .2) (shown .if1 .taken) (found .row-at .ensures .0) (c .count-slice .ensures),
     )
 
