@@ -1,6 +1,6 @@
 -- `print_numbers` is safe and ends: a number's code has at least one byte, so each turn leaves fewer bytes.
 use mathlib.Core.Path.{sym, _∙_}
-use Prim.Native.Nat.{ℕ, _-_}
+use Prim.Native.Nat.{_-_}
 use native.Mathlib.Omega.{arith}
 use lib.ListN.{length}
 use borrow.Author.Needs.{needs}
@@ -30,9 +30,9 @@ print-number-requires c κs = tt
 loop-less : tie.Need-loop-less Inv-loop μ-loop
 loop-less c =
     let turn = c .before .before .before .before in
-    let are-bytes = λ (i : ℕ). turn .before .before .before .shared-slice-known .given i .fits in
+    let bytes = turn .before .before .before .shared-slice-known .given in
     let read = sym (decoded-one-to-one _ _ (turn .decode .ensures)) ∙ c .before .before .value .given .1 in
-    omega (arith, turn .before .loop-test .taken, encoded-decoded _ _ _ _ are-bytes read .behind, size-within (c .before .before .value .given .0 .0))
+    omega (arith, turn .before .loop-test .taken, encoded-decoded _ _ _ _ (λ i. bytes i .fits) read .behind, size-within (c .before .before .value .given .0 .0))
 
 loop-again : tie.Need-loop-again Inv-loop μ-loop
 loop-again c = tt

@@ -28,10 +28,13 @@ use Rattle.steplog.proofs.open as opening
 use Rattle.steplog.proofs.next as next
 use Rattle.walks.proofs.Walks.{URA, named, erased, w64, Val, vint, vptr, SProp, ent, emp, via, fst∗, id⊢, Lft, Share, Fml, ftrue, fat, flft, Memory, Routine}
 use Rattle.walks.proofs.Walks.{Heap, Env, WpFn, Tables, Atoms, Fun, givenOf, tablesOf, Given, Item, ‵, raw, _⊛_, ⋆, runs, atRet, Sq, _$_, _∵_, !, qed, by}
-use Rattle.walks.proofs.Walks.{move, drop, use1, split, join, fsplit, fjoin, keep, suffices, frame, done, look, init, stop, from, lit, addr, agg, of-opd, and-then, no-more, returns}
-use Rattle.walks.proofs.Walks.{params1, pass1, pass0, RattleType, owns, Is, u8, usize, RefT, NamedLft, plain, sliceVal, ShrSlice, Room, slice-vals, shows, peeks, owned}
+use Rattle.walks.proofs.Walks.{move, drop, use1, split, join, fsplit, fjoin, keep, suffices, frame, done, look, init, stop, from, lit, addr, agg, of-opd}
+use Rattle.walks.proofs.Walks.{and-then, no-more, returns}
+use Rattle.walks.proofs.Walks.{params1, pass1, pass0, RattleType, owns, Is, u8, usize, RefT, NamedLft, plain, sliceVal, ShrSlice, Room, slice-vals, shows}
+use Rattle.walks.proofs.Walks.{peeks, owned}
 use Rattle.walks.proofs.Walks.{shr-slice-tells, nothing, own-shut, onEntry, Triple, cited, says, Stays, stay-none-slice, walkOf, goes-none-slice, ends-at, yes}
-use Rattle.walks.proofs.Walks.{Plain, of-struct, of-word, word, Blocks, spots, locals, enters, frees-all, filled, empty, get, get-field, sets, lands-in, tablesAt, met-by}
+use Rattle.walks.proofs.Walks.{Plain, of-struct, of-word, word, Blocks, spots, locals, enters, frees-all, filled, empty, get, get-field, sets, lands-in}
+use Rattle.walks.proofs.Walks.{tablesAt, met-by}
 use Rattle.walks.proofs.Calling.{Callee, calls-on, owned-all, told, told-by, token-in, token-out}
 use Rattle.walks.proofs.Lending.{slice-twice, refTo, lends-local, local-kept}
 use Rattle.reading.specs.declared.five.Five.{Five}
@@ -160,8 +163,16 @@ module _ {M : Type 1} (𝓤 : URA M) (H : Heap 𝓤) (A : Atoms 𝓤) (W : Given
           -- [the reference; the shorter lifetime's token; 'a's token; what is kept of the local; the others]
           nothing ! $ move ! (1 ∷ 0 ∷ []) $ fjoin ! $ move ! (2 ∷ []) $ token-in ! $ move ! (2 ∷ 0 ∷ []) $ join ! $
           use1 W (raw (toks 𝓤 A 2 (ν ∷ κ, (κ, tt)) (PosShare·left q, (PosShare·right q, tt)))) (id⊢ 𝓤 _) $
-          calls-on ! 𝓣 next.ended (next.clauses 𝓤 H A mem run) next-met
-          (((ν ∷ κ, (κ, tt)), (PosShare·left q, (PosShare·right q, tt)), (meet-⊑-right (ν ∷ []) κ, tt), (refTo block γ (readerAt n), tt), (vptr block 0 ∷ [], tt)), tt)
+          calls-on ! 𝓣 next.ended (next.clauses 𝓤 H A mem run) next-met (
+            (
+              (ν ∷ κ, (κ, tt)),
+              (PosShare·left q, (PosShare·right q, tt)),
+              (meet-⊑-right (ν ∷ []) κ, tt),
+              (refTo block γ (readerAt n), tt),
+              (vptr block 0 ∷ [], tt),
+            ),
+            tt,
+          )
           (λ s ws. (recordNumbers s ≡ recordNumbers (found n)) × (ws .0 ≡ record { log = x; at = placeAfter s (readerAt n .at) })) (λ s ws. id⊢ 𝓤 _) (id⊢ 𝓤 _)
           (and-then ! (get ! (suc (suc i)) there) (no-more !)) (λ u s ws is e.
           let same = record-one-to-one s (found n) (e .0) in
