@@ -1,40 +1,21 @@
 -- What is put part by part, or piece by piece, is what the definitions give.
---     bytes-below       the bytes of a list are the list
 --     answers-below     the lines of the first answers are their text
 --     rows-below        the lines of the numbers that a scan stores are those of its rows
 --     row-pieces        the line of a row by its fields
 --     stop-pieces       the line of a stop by its words and numbers
 --     run-pieces        the text of a run by its parts
-use mathlib.Core.Path.{_≡_, refl, sym, ap, _∙_}
-use mathlib.Core.List.{List, [], _∷_, _++_, flatten, map, append-assoc, append-nil}
+use mathlib.Core.Path.{_≡_, refl, ap, _∙_}
+use mathlib.Core.List.{List, [], _∷_, _++_, flatten, append-assoc, append-nil}
 use Prim.Native.Nat.{ℕ, zero, suc, _+_, _*_, _≤_, _<_}
-use native.Mathlib.Numerals.{add-one}
 use native.Mathlib.Omega.{arith}
 use lib.ListN.{length, take, getD}
-use lib.Seq.{take-suc, take-length, getD-append-add}
+use lib.Seq.{getD-append-add}
 use Rattle.common.specs.Counting.{listBelow}
 use Rattle.model.specs.Snapshot.{Row, row, numbers}
 use Rattle.common.proofs.ListBelow.{same-below}
-use Rattle.common.proofs.Pieces.{each-next}
-use Rattle.transcript.specs.Text.{newline, space, decimal, field, answerLines, stopWord, atWord, stopLine, rowLine, rowLines, rowOf, numberLines, runText}
-
--- a piece of each of the first elements of a list, by their places
-each-below : {A : Type 0} (f : A → List ℕ) (l : List A) (d : A) (n : ℕ) → n ≤ length l → listBelow n (λ i. f (getD l i d)) ≡ flatten (map f (take n l))
-unfolding listBelow flatten
-each-below f l d zero h = refl
-each-below f l d (suc n) h = rw (each-below f l d n (omega arith)) (sym (rw add-one at (each-next f l n d h)))
-
--- the byte at a place, as a part
-abbrev pub byteOf : List ℕ → ℕ → List ℕ
-byteOf bytes i = getD bytes i 0 ∷ []
-
-bytes-to : (bytes : List ℕ) (n : ℕ) → n ≤ length bytes → listBelow n (byteOf bytes) ≡ take n bytes
-unfolding listBelow
-bytes-to bytes zero h = refl
-bytes-to bytes (suc n) h = rw (bytes-to bytes n (omega arith), take-suc bytes n 0 h)
-
-pub bytes-below : (bytes : List ℕ) → listBelow (length bytes) (byteOf bytes) ≡ bytes
-bytes-below bytes = bytes-to bytes (length bytes) (omega arith) ∙ take-length bytes
+use Rattle.common.proofs.Pieces.{each-below, each-all}
+use Rattle.transcript.specs.Text.{newline, space, decimal, field, answerLines, stopWord, atWord, stopLine, rowLine, rowLines}
+use Rattle.transcript.specs.Inner.{rowOf, numberLines, runText}
 
 -- the line of an answer
 abbrev pub answerLine : List ℕ → ℕ → List ℕ
@@ -49,7 +30,9 @@ skipped : (k v g : ℕ) (ns : List ℕ) (n m : ℕ) → m ≡ 3 + n → getD (k 
 skipped k v g ns n m e = rw e (getD-append-add (k ∷ v ∷ g ∷ []) ns n 0)
 
 row-behind : (k v g : ℕ) (ns : List ℕ) (i : ℕ) → rowOf (k ∷ v ∷ g ∷ ns) (suc i) ≡ rowOf ns i
-row-behind k v g ns i = cc (skipped k v g ns (3 * i) (3 * suc i) (omega arith), skipped k v g ns (3 * i + 1) (3 * suc i + 1) (omega arith), skipped k v g ns (3 * i + 2) (3 * suc i + 2) (omega arith))
+row-behind k v g ns i =
+    let behind : (n m : ℕ) → m ≡ 3 + n → getD (k ∷ v ∷ g ∷ ns) m 0 ≡ getD ns n 0 = skipped k v g ns in
+    cc (behind (3 * i) (3 * suc i) (omega arith), behind (3 * i + 1) (3 * suc i + 1) (omega arith), behind (3 * i + 2) (3 * suc i + 2) (omega arith))
 
 row-at : (rows : List Row) (rest : List ℕ) (i : ℕ) → i < length rows → rowOf (numbers rows ++ rest) i ≡ getD rows i (row 0 0 0)
 unfolding numbers
@@ -60,7 +43,7 @@ row-at (r ∷ rows) rest (suc i) h = row-behind (r .key) (r .value) (r .group) (
 pub rows-below : (rows : List Row) (rest : List ℕ) → numberLines (numbers rows ++ rest) (length rows) ≡ rowLines rows
 unfolding numberLines rowLines
 rows-below rows rest =
-    same-below (length rows) _ _ (λ i h. ap rowLine (row-at rows rest i h)) ∙ rw (each-below rowLine rows (row 0 0 0) (length rows) (omega arith), take-length)
+    same-below (length rows) _ _ (λ i h. ap rowLine (row-at rows rest i h)) ∙ each-all rowLine rows (row 0 0 0)
 
 -- ---- lines of several pieces
 pub row-pieces : (r : Row) → rowLine r ≡ flatten (field (r .key) space ∷ field (r .value) space ∷ field (r .group) newline ∷ [])

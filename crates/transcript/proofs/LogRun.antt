@@ -26,7 +26,8 @@ use Rattle.common.specs.Pasting.{PastedTo}
 use Rattle.run.specs.Runs.{ofLog, takenFrom, Run, runOf}
 use Rattle.run.proofs.Taken.{count-fits, answers-length}
 use Rattle.run.proofs.RunState.{run-state}
-use Rattle.transcript.specs.Text.{runText, runRoom}
+use Rattle.transcript.specs.Text.{runRoom}
+use Rattle.transcript.specs.Inner.{runText}
 use Rattle.transcript.specs.Transcript.{maxLog, maxAnswers, maxText, transcript, printed}
 use Rattle.transcript.proofs.Lines.{rows-below}
 use Rattle.transcript.proofs.Printed.{text-printed}

@@ -2,8 +2,8 @@
 --     decimal-most       a number has at most maxDigits digits
 --     decimal-within     and no more than j, where it is below 10 ^ j
 --     answers-most       n answers, each a byte, take at most 4 bytes each
---     stop-most          the line of a stop, a byte, takes at most 33 bytes
---     rows-most          a row takes at most 63 bytes
+--     stop-most          the line of a stop, a byte, has room in stopRoom
+--     rows-most          a row has room in rowRoom
 --     run-most           so the text of a run has room
 use mathlib.Core.Path.{_≡_}
 use mathlib.Core.List.{List, [], _∷_}
@@ -15,7 +15,8 @@ use native.Mathlib.Omega.{arith}
 use lib.ListN.{length, take, getD, length-append}
 use Rattle.model.specs.Snapshot.{Row}
 use Rattle.common.proofs.ListBelow.{length-below}
-use Rattle.transcript.specs.Text.{newline, maxDigits, decimalIn, decimal, field, answerLines, stopLine, rowLine, rowOf, numberLines, runText, runRoom}
+use Rattle.transcript.specs.Text.{newline, maxDigits, decimalIn, decimal, field, answerLines, stopLine, rowLine, answerRoom, stopRoom, rowRoom, runRoom}
+use Rattle.transcript.specs.Inner.{rowOf, numberLines, runText}
 use Rattle.transcript.proofs.Decimal.{short-in, long-in}
 use Rattle.transcript.proofs.Lines.{answers-below}
 
@@ -52,22 +53,28 @@ unfolding field
 field-length n end = length-append (decimal n) (end ∷ [])
 
 -- ---- lines
-answers-most : (answers : List ℕ) → ((i : ℕ) → getD answers i 0 < 256) → (count : ℕ) → count ≤ length answers → length (answerLines (take count answers)) ≤ 4 * count
+answers-most : (answers : List ℕ) → ((i : ℕ) → getD answers i 0 < 256) → (count : ℕ) → count ≤ length answers
+    → length (answerLines (take count answers)) ≤ answerRoom * count
 answers-most answers bytes count all =
-    rw (← answers-below answers count all) (length-below 4 count _ (λ i. omega (arith, field-length (getD answers i 0) newline, byte-within (getD answers i 0) (bytes i))))
+    rw (← answers-below answers count all) (length-below answerRoom count _ (λ i. omega (
+      arith,
+      field-length (getD answers i 0) newline,
+      byte-within (getD answers i 0)
+          (bytes i),
+    )))
 
-stop-most : (stop offset : ℕ) → stop < 256 → length (stopLine stop offset) ≤ 33
+stop-most : (stop offset : ℕ) → stop < 256 → length (stopLine stop offset) ≤ stopRoom
 unfolding stopLine
 stop-most stop offset byte = simp length-append (omega (arith, byte-within stop byte, field-length offset newline, decimal-most offset))
 
-row-most : (r : Row) → length (rowLine r) ≤ 63
+row-most : (r : Row) → length (rowLine r) ≤ rowRoom
 unfolding rowLine
 row-most r =
     simp (length-append, field-length) (omega (arith, decimal-most (r .key), decimal-most (r .value), decimal-most (r .group)))
 
-rows-most : (ns : List ℕ) (count : ℕ) → length (numberLines ns count) ≤ 63 * count
+rows-most : (ns : List ℕ) (count : ℕ) → length (numberLines ns count) ≤ rowRoom * count
 unfolding numberLines
-rows-most ns count = length-below 63 count _ (λ i. row-most (rowOf ns i))
+rows-most ns count = length-below rowRoom count _ (λ i. row-most (rowOf ns i))
 
 pub run-most : (answers : List ℕ) (count stop offset : ℕ) (ns : List ℕ) (rows : ℕ) → ((i : ℕ) → getD answers i 0 < 256) → count ≤ length answers → stop < 256
     → length (runText (take count answers) stop offset ns rows) ≤ runRoom count rows

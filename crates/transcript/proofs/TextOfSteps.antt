@@ -54,7 +54,8 @@ module _ (log answers : List ℕ) where
 pub taken-printed : (log : List ℕ) → length log ≤ maxLog → transcript log ≡ stepsText (takenFrom (ofLog log) maxAnswers 0)
 unfolding transcript
 taken-printed log short =
-    rw (le-ltb _ _ short) (run-reported log (replicate maxAnswers 0) ∙ ap (λ (n : ℕ). stepsText (takenFrom (ofLog log) n 0)) (length-replicate {A = ℕ} maxAnswers 0))
+    rw (le-ltb _ _ short) (run-reported log (replicate maxAnswers 0) ∙ ap (λ (n : ℕ). stepsText (takenFrom (ofLog log) n 0))
+    (length-replicate {A = ℕ} maxAnswers 0))
 
 -- ---- all steps of the log
 module _ (log : List ℕ) (are-bytes : (i : ℕ) → getD log i 0 < 256) (short : length log ≤ maxLog) where

@@ -1,12 +1,9 @@
--- The parts of the printed text, in ASCII, document 01, "The step log": "prints each answer in decimal on its own line, then `stop N at OFFSET`,
--- then a scan at the last issued timestamp, `key value group` a line".
+-- The parts of the printed text, in ASCII: each answer in decimal on its own line, the stop, and the rows of a scan (document 01, The step log, the program).
 use Prim.Native.Nat.{ℕ, zero, suc, _+_, _-_, _*_, _/_, _%_}
 use mathlib.Core.Bool.{cond}
 use mathlib.Core.List.{List, [], _∷_, _++_, flatten, map}
 use lib.Dec.{ltb}
-use lib.ListN.{getD}
-use Rattle.common.specs.Counting.{listBelow}
-use Rattle.model.specs.Snapshot.{Row, row}
+use Rattle.model.specs.Snapshot.{Row}
 
 abbrev pub newline : ℕ
 newline = 10
@@ -39,18 +36,18 @@ field n end = decimal n ++ end ∷ []
 unfoldable pub answerLines : List ℕ → List ℕ
 answerLines answers = flatten (map (λ a. field a newline) answers)
 
--- "stop " and " at "
+-- `stop ` and ` at `
 abbrev pub stopWord : List ℕ
 stopWord = 115 ∷ 116 ∷ 111 ∷ 112 ∷ 32 ∷ []
 
 abbrev pub atWord : List ℕ
 atWord = 32 ∷ 97 ∷ 116 ∷ 32 ∷ []
 
--- "`stop N at OFFSET`"
+-- the line `stop N at OFFSET`
 unfoldable pub stopLine : ℕ → ℕ → List ℕ
 stopLine stop offset = stopWord ++ decimal stop ++ atWord ++ field offset newline
 
--- "`key value group` a line"
+-- the line `key value group` of a row
 unfoldable pub rowLine : Row → List ℕ
 rowLine r = field (r .key) space ++ field (r .value) space ++ field (r .group) newline
 
@@ -58,23 +55,19 @@ rowLine r = field (r .key) space ++ field (r .value) space ++ field (r .group) n
 unfoldable pub rowLines : List Row → List ℕ
 rowLines rows = flatten (map rowLine rows)
 
--- room for the text of a run: 4 bytes an answer, 33 for the stop, 63 a row
-abbrev pub runRoom : ℕ → ℕ → ℕ
-runRoom answers rows = 4 * answers + 33 + 63 * rows
+-- room for the text of a run: an answer has at most three digits, the stop three and its offset twenty, a number of a row twenty; then words and line ends
+abbrev pub answerRoom : ℕ
+answerRoom = 3 + 1
 
--- "too long", as a line
+abbrev pub stopRoom : ℕ
+stopRoom = 5 + 3 + 4 + maxDigits + 1
+
+abbrev pub rowRoom : ℕ
+rowRoom = 3 * (maxDigits + 1)
+
+abbrev pub runRoom : ℕ → ℕ → ℕ
+runRoom answers rows = answerRoom * answers + stopRoom + rowRoom * rows
+
+-- the line `too long`
 abbrev pub tooLong : List ℕ
 tooLong = 116 ∷ 111 ∷ 111 ∷ 32 ∷ 108 ∷ 111 ∷ 110 ∷ 103 ∷ newline ∷ []
-
--- ---- what inner functions promise each other
--- row i of some numbers, three a row, as a scan stores them
-abbrev pub rowOf : List ℕ → ℕ → Row
-rowOf numbers i = row (getD numbers (3 * i) 0) (getD numbers (3 * i + 1) 0) (getD numbers (3 * i + 2) 0)
-
--- the first rows of some numbers, each on its own line
-unfoldable pub numberLines : List ℕ → ℕ → List ℕ
-numberLines numbers count = listBelow count (λ i. rowLine (rowOf numbers i))
-
--- the text of a run: its answers, its stop, and the first rows of the numbers that a scan stored
-unfoldable pub runText : List ℕ → ℕ → ℕ → List ℕ → ℕ → List ℕ
-runText answers stop offset numbers rows = answerLines answers ++ stopLine stop offset ++ numberLines numbers rows

@@ -1,4 +1,4 @@
--- What the program prints for a log, document 01, "The step log" and the range of its input.
+-- What the program prints for a log (document 01, The step log, the program; What the engine holds, its input).
 use Prim.Native.Nat.{ℕ}
 use mathlib.Core.Bool.{cond}
 use mathlib.Core.List.{List, _++_}
@@ -16,7 +16,7 @@ use Rattle.common.specs.Pasting.{pasted}
 use Rattle.run.specs.Runs.{Run, ofLog, runOf}
 use Rattle.transcript.specs.Text.{answerLines, stopLine, rowLines, runRoom, tooLong}
 
--- "program input", 32,768 bytes
+-- the most bytes of the input
 abbrev pub maxLog : ℕ
 maxLog = 32768
 
@@ -33,7 +33,7 @@ abbrev pub reported : Run State → List ℕ
 reported r =
     answerLines (take (r .count) (r .answers)) ++ stopLine (r .stop) (r .offset) ++ rowLines (rowsAt (r .state .shared) (r .state .shared .last))
 
--- "For longer input it prints only `too long`."
+-- a log's text; for a longer input the one line `too long`
 unfoldable pub transcript : List ℕ → List ℕ
 transcript log = cond (ltb maxLog (length log)) tooLong (reported (runOf (ofLog log) fresh (replicate maxAnswers 0)))
 
@@ -43,7 +43,6 @@ printed log buffer =
     cond (ltb (length buffer) maxText) (record { size = 0; buffer = buffer })
     (record { size = length (transcript log); buffer = pasted buffer 0 (transcript log) })
 
--- ---- what the law about the text speaks of
 -- the text of some steps from a fresh table: their answers, where they end, and the rows that their history lists at the last timestamp issued
 abbrev pub stepsText : LogRead → List ℕ
 stepsText t =

@@ -17,8 +17,20 @@ const MAX_ANSWERS: usize = MAX_LOG / 2;
 // Room for the rows of a scan, three numbers each: no key stands in two file groups.
 const MAX_NUMBERS: usize = 3 * KEYS;
 
-// Room for any text: 4 bytes an answer, 33 for the stop, 63 a row.
-pub const MAX_TEXT: usize = 4 * MAX_ANSWERS + 33 + 63 * KEYS;
+// The most digits of a 64-bit number.
+const MAX_DIGITS: usize = 20;
+
+// Room for an answer, a byte, on its line.
+const ANSWER_ROOM: usize = 3 + 1;
+
+// Room for the line of the stop, a byte, with its two words and the offset.
+const STOP_ROOM: usize = 5 + 3 + 4 + MAX_DIGITS + 1;
+
+// Room for the line of a row.
+const ROW_ROOM: usize = 3 * (MAX_DIGITS + 1);
+
+// Room for any text.
+pub const MAX_TEXT: usize = ANSWER_ROOM * MAX_ANSWERS + STOP_ROOM + ROW_ROOM * KEYS;
 
 // Prints what a log's run on a fresh table gives at the start of a buffer, and gives the text's size; nothing where the buffer is shorter than MAX_TEXT.
 pub fn transcribe(log: &[u8], text: &mut [u8]) -> usize

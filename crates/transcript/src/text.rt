@@ -3,7 +3,8 @@ ghost use Prim.Native.Nat.{_+_, _*_, _≤_};
 ghost use lib.ListN.{length, take};
 ghost use Rattle.model.specs.Snapshot.{row};
 ghost use Rattle.common.specs.Pasting.{Pastes};
-ghost use Rattle.transcript.specs.Text.{decimal, field, answerLines, stopLine, rowLine, numberLines, runText, runRoom};
+ghost use Rattle.transcript.specs.Text.{decimal, field, answerLines, stopLine, rowLine, runRoom};
+ghost use Rattle.transcript.specs.Inner.{numberLines, runText};
 use common::Word;
 
 // The digit 0 in ASCII.

@@ -19,7 +19,8 @@ same-length : tie.Need-same-length
 same-length c = search needs
 
 returns-2 : tie.Need-returns-2
-returns-2 c = too-long-printed _ _ (c .before .before .before .before .before .before .if1 .left) (c .before .before .before .before .before .if2 .taken) (c .before .before .put-bytes .ensures)
+returns-2 c = too-long-printed _ _ (c .before .before .before .before .before .before .if1 .left) (c .before .before .before .before .before .if2 .taken)
+    (c .before .before .put-bytes .ensures)
 
 fresh-requires : tie.Need-fresh-requires
 fresh-requires c κs = search needs
@@ -46,13 +47,25 @@ slice-aggregate-put-run-2 : tie.Need-slice-aggregate-put-run-2
 slice-aggregate-put-run-2 c = search needs
 
 put-run-requires : tie.Need-put-run-requires
-put-run-requires c κs = run-fits (c .before .before .before .before .before .before .before .before .before .before .before .before .before .before .before .before .before .before .before .before .before .before .args .log .now) (c .before .before .before .before .before .before .before .before .before .before .before .before .before .before .before .fresh .ensures) (c .before .before .before .before .before .before .before .before .before .before .before .run-log .ensures) (c .before .before .before .before .scan .ensures) (c .before .before .before .before .before .before .before .before .before .before .before .before .before .before .before .before .before .before .before .before .before .before .args .text .now) (c .before .before .before .before .before .before .before .before .before .before .before .before .before .before .before .before .before .before .before .if1 .left) (search needs)
+put-run-requires c κs =
+    let scanned = c .before .before .before .before in
+    let ran = scanned .before .before .before .before .before .before .before in
+    let cleared = ran .before .before .before .before in
+    let short = cleared .before .before .before .before in
+    let entry = short .before .before .before .args in
+    run-fits (entry .log .now) (cleared .fresh .ensures) (ran .run-log .ensures) (scanned .scan .ensures) (entry .text .now) (short .if1 .left) (search needs)
 
 same-length-2 : tie.Need-same-length-2
 same-length-2 c = search needs
 
 returns-3 : tie.Need-returns-3
-returns-3 c = run-printed _ (c .before .before .before .before .before .before .before .before .before .before .before .before .before .before .before .before .before .before .fresh .ensures) (c .before .before .before .before .before .before .before .before .before .before .before .before .before .before .run-log .ensures) (c .before .before .before .before .before .before .before .scan .ensures) _ (c .before .before .before .before .before .before .before .before .before .before .before .before .before .before .before .before .before .before .before .before .before .before .if1 .left) (c .before .before .before .before .before .before .before .before .before .before .before .before .before .before .before .before .before .before .before .before .before .if2 .left) (c .before .before .put-run .ensures)
+returns-3 c =
+    let scanned = c .before .before .before .before .before .before .before in
+    let ran = scanned .before .before .before .before .before .before .before in
+    let cleared = ran .before .before .before .before in
+    let short = cleared .before .before .before in
+    run-printed _ (cleared .fresh .ensures) (ran .run-log .ensures) (scanned .scan .ensures) _ (short .before .if1 .left) (short .if2 .left)
+    (c .before .before .put-run .ensures)
 
 pub transcribe-spec : {M : Type 1} → statement M
 transcribe-spec =

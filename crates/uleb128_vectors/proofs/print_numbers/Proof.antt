@@ -5,6 +5,7 @@ use native.Mathlib.Omega.{arith}
 use lib.ListN.{length}
 use borrow.Author.Needs.{needs}
 use Rattle.leb128.proofs.Laws.{encoded-decoded, size-within}
+use Rattle.leb128.proofs.OneToOne.{decoded-one-to-one}
 use Rattle.uleb128_vectors.proofs.print_numbers.Statement.{statement}
 use Rattle.uleb128_vectors.proofs.print_numbers.Tie as tie
 
@@ -27,7 +28,11 @@ print-number-requires : tie.Need-print-number-requires Inv-loop μ-loop
 print-number-requires c κs = tt
 
 loop-less : tie.Need-loop-less Inv-loop μ-loop
-loop-less c = omega (arith, c .before .before .before .before .before .loop-test .taken, encoded-decoded _ _ _ _ (λ i. c .before .before .before .before .before .before .before .shared-slice-known .given i .fits) (sym (c .before .before .before .before .decode .ensures) ∙ c .before .before .value .given .1) .behind, size-within (c .before .before .value .given .0 .0))
+loop-less c =
+    let turn = c .before .before .before .before in
+    let bytes = turn .before .before .before .shared-slice-known .given in
+    let read = sym (decoded-one-to-one _ _ (turn .decode .ensures)) ∙ c .before .before .value .given .1 in
+    omega (arith, turn .before .loop-test .taken, encoded-decoded _ _ _ _ (λ i. bytes i .fits) read .behind, size-within (c .before .before .value .given .0 .0))
 
 loop-again : tie.Need-loop-again Inv-loop μ-loop
 loop-again c = tt

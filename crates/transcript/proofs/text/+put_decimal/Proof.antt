@@ -71,9 +71,11 @@ module _ (t : ℕ) where
 
   returns-2 : code.Need-returns-2 (below t, put-decimal.Post) (given t) put-decimal.Post
   returns-2 c = let long = c .before .before .before .before in
-      rw (decimal-long _ (long .if1 .left) (long .before .before .fits .number .fits)) (last-joined (pieces long) (c .before .before .put-decimal .ensures) (element-pasted _ _ _ (slice-write-text-2 c)))
+      rw (decimal-long _ (long .if1 .left) (long .before .before .fits .number .fits)) (last-joined (pieces long) (c .before .before .put-decimal .ensures)
+      (element-pasted _ _ _ (slice-write-text-2 c)))
 
 pub +put-decimal-spec : {M : Type 1} → statement M
 +put-decimal-spec =
     close μ
-    (λ t. code.spec (below t, put-decimal.Post) (given t) put-decimal.Post (add-text t) (cast-text t) (slice-write-text t) (add-result t) (same-length t) (returns t) (put-decimal-requires t) (add-text-2 t) (cast-text-2 t) (slice-write-text-2 t) (add-result-2 t) (same-length-2 t) (returns-2 t))
+    (λ t. code.spec (below t, put-decimal.Post) (given t) put-decimal.Post (add-text t) (cast-text t) (slice-write-text t) (add-result t) (same-length t)
+    (returns t) (put-decimal-requires t) (add-text-2 t) (cast-text-2 t) (slice-write-text-2 t) (add-result-2 t) (same-length-2 t) (returns-2 t))

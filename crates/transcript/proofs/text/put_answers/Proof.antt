@@ -32,7 +32,8 @@ loop-less : tie.Need-loop-less Inv-loop μ-loop
 loop-less c = search needs
 
 loop-again : tie.Need-loop-again Inv-loop μ-loop
-loop-again c = parts.goes-on (c .before .before .before .before .before .before .loop .inv) (c .before .before .before .before .before .loop-test .taken) (c .before .before .put-field .ensures)
+loop-again c = parts.goes-on (c .before .before .before .before .before .before .loop .inv) (c .before .before .before .before .before .loop-test .taken)
+    (c .before .before .put-field .ensures)
 
 same-length : tie.Need-same-length Inv-loop μ-loop
 same-length c = parts.same-length (c .before .loop .inv)
@@ -41,4 +42,5 @@ returns : tie.Need-returns Inv-loop μ-loop
 returns c = rw (← answers-below _ _ (c .before .before .before .before .pre .0)) (parts.ends (c .before .loop .inv) (c .loop-test .left))
 
 pub put-answers-spec : {M : Type 1} → statement M
-put-answers-spec = tie.close (tie.spec Inv-loop μ-loop loop-holds shared-slice-read-put-field cast-put-field put-field-requires add-i loop-less loop-again same-length returns)
+put-answers-spec =
+    tie.close (tie.spec Inv-loop μ-loop loop-holds shared-slice-read-put-field cast-put-field put-field-requires add-i loop-less loop-again same-length returns)

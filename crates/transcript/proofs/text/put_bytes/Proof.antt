@@ -5,20 +5,19 @@ use native.Mathlib.Nat.{add-zero}
 use native.Mathlib.Omega.{arith}
 use lib.ListN.{length}
 use borrow.Author.Needs.{needs}
-use Rattle.common.proofs.Pieces.{element-pasted}
+use Rattle.common.proofs.Pieces.{elementAt, elements-all, element-pasted}
 use Rattle.common.proofs.PastedParts as parts
-use Rattle.transcript.proofs.Lines.{byteOf, bytes-below}
 use Rattle.transcript.proofs.text.put_bytes.Statement.{statement}
 use Rattle.transcript.proofs.text.put_bytes.Tie as tie
 
 abbrev Inv-loop : tie.InvT-loop
-Inv-loop text₀ at bytes i₀ text i = parts.Putting (byteOf bytes) (length bytes) text₀ at text (at + i) i
+Inv-loop text₀ at bytes i₀ text i = parts.Putting (elementAt 0 bytes) (length bytes) text₀ at text (at + i) i
 
 abbrev μ-loop : tie.MeasureT-loop
 μ-loop text₀ at bytes i₀ text i = length bytes - i
 
 loop-holds : tie.Need-loop-holds Inv-loop μ-loop
-loop-holds c = rw add-zero (parts.starts _ _ _ _ (rw (bytes-below (c .args .bytes .now)) (c .pre)))
+loop-holds c = rw add-zero (parts.starts _ _ _ _ (rw (elements-all 0 (c .args .bytes .now)) (c .pre)))
 
 shared-slice-read-text : tie.Need-shared-slice-read-text Inv-loop μ-loop
 shared-slice-read-text c = search needs
@@ -45,7 +44,8 @@ same-length : tie.Need-same-length Inv-loop μ-loop
 same-length c = parts.same-length (c .before .loop .inv)
 
 returns : tie.Need-returns Inv-loop μ-loop
-returns c = (refl, rw bytes-below at (parts.ends (c .before .loop .inv) (c .loop-test .left) .1))
+returns c = (refl, rw elements-all at (parts.ends (c .before .loop .inv) (c .loop-test .left) .1))
 
 pub put-bytes-spec : {M : Type 1} → statement M
-put-bytes-spec = tie.close (tie.spec Inv-loop μ-loop loop-holds shared-slice-read-text add-text slice-write-text add-i loop-less loop-again add-result same-length returns)
+put-bytes-spec =
+    tie.close (tie.spec Inv-loop μ-loop loop-holds shared-slice-read-text add-text slice-write-text add-i loop-less loop-again add-result same-length returns)

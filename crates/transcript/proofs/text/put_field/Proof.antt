@@ -25,7 +25,8 @@ same-length c = search needs
 
 returns : tie.Need-returns
 unfolding field
-returns c = last-joined (pieces (c .before .before .before .before .before)) (c .before .before .put-decimal .ensures) (element-pasted _ _ _ (slice-write-text c))
+returns c = last-joined (pieces (c .before .before .before .before .before)) (c .before .before .put-decimal .ensures)
+    (element-pasted _ _ _ (slice-write-text c))
 
 pub put-field-spec : {M : Type 1} → statement M
 put-field-spec = tie.close (tie.spec put-decimal-requires slice-write-text add-result same-length returns)

@@ -1,7 +1,8 @@
 -- `put_rows` pastes the lines of the rows: its loop keeps `Putting` of one line at a time, and what is left of the count is the measure.
 use Prim.Native.Nat.{_-_}
 use borrow.Author.Needs.{needs}
-use Rattle.transcript.specs.Text.{rowLine, rowOf, numberLines}
+use Rattle.transcript.specs.Text.{rowLine}
+use Rattle.transcript.specs.Inner.{rowOf, numberLines}
 use Rattle.common.proofs.PastedParts as parts
 use Rattle.transcript.proofs.text.put_rows.Statement.{statement}
 use Rattle.transcript.proofs.text.put_rows.Tie as tie
@@ -53,7 +54,8 @@ loop-less : tie.Need-loop-less Inv-loop μ-loop
 loop-less c = search needs
 
 loop-again : tie.Need-loop-again Inv-loop μ-loop
-loop-again c = parts.goes-on (c .before .before .before .before .before .before .before .before .loop .inv) (c .before .before .before .before .before .before .before .loop-test .taken) (c .before .before .put-row .ensures)
+loop-again c = parts.goes-on (c .before .before .before .before .before .before .before .before .loop .inv)
+    (c .before .before .before .before .before .before .before .loop-test .taken) (c .before .before .put-row .ensures)
 
 same-length : tie.Need-same-length Inv-loop μ-loop
 same-length c = parts.same-length (c .before .loop .inv)

@@ -17,7 +17,8 @@ put-bytes-requires : tie.Need-put-bytes-requires
 put-bytes-requires c κs = first-fits (pieces (c .before .before .before))
 
 put-decimal-requires : tie.Need-put-decimal-requires
-put-decimal-requires c κs = let word = c .before .before .before in first-fits (rest-fits (pieces (word .before .before .before .before)) (word .put-bytes .ensures))
+put-decimal-requires c κs = let word = c .before .before .before in first-fits (rest-fits (pieces (word .before .before .before .before))
+    (word .put-bytes .ensures))
 
 slice-aggregate-put-bytes-2 : tie.Need-slice-aggregate-put-bytes-2
 slice-aggregate-put-bytes-2 c = search needs
@@ -27,17 +28,31 @@ put-bytes-requires-2 c κs = let stop = c .before .before .before .before in let
     first-fits (rest-fits (rest-fits (pieces (word .before .before .before .before)) (word .put-bytes .ensures)) (stop .put-decimal .ensures))
 
 put-field-requires : tie.Need-put-field-requires
-put-field-requires c κs = let behind = c .before .before .before in let stop = behind .before .before .before .before .before in let word = stop .before .before .before .before in
-    first-fits (rest-fits (rest-fits (rest-fits (pieces (word .before .before .before .before)) (word .put-bytes .ensures)) (stop .put-decimal .ensures)) (behind .put-bytes2 .ensures))
+put-field-requires c κs = let behind = c .before .before .before in let stop = behind .before .before .before .before .before in let word =
+    stop .before .before .before .before in
+    first-fits (rest-fits (rest-fits (rest-fits (pieces (word .before .before .before .before)) (word .put-bytes .ensures)) (stop .put-decimal .ensures))
+    (behind .put-bytes2 .ensures))
 
 same-length : tie.Need-same-length
 same-length c = search needs
 
 returns : tie.Need-returns
-returns c = let offset = c .before .before in let behind = offset .before .before .before .before in let stop = behind .before .before .before .before .before in let word = stop .before .before .before .before in
+returns c = let offset = c .before .before in let behind = offset .before .before .before .before in let stop =
+    behind .before .before .before .before .before in let word = stop .before .before .before .before in
     let all = pieces (word .before .before .before .before) in
     let rest = rest-fits all (word .put-bytes .ensures) in
-    rw stop-pieces (pasted-together all (word .put-bytes .ensures) (pasted-together rest (stop .put-decimal .ensures) (pasted-together (rest-fits rest (stop .put-decimal .ensures)) (behind .put-bytes2 .ensures) (rw one-piece (offset .put-field .ensures)))))
+    rw stop-pieces (pasted-together all (word .put-bytes .ensures) (pasted-together rest (stop .put-decimal .ensures)
+    (pasted-together (rest-fits rest (stop .put-decimal .ensures)) (behind .put-bytes2 .ensures) (rw one-piece (offset .put-field .ensures)))))
 
 pub put-stop-spec : {M : Type 1} → statement M
-put-stop-spec = tie.close (tie.spec slice-aggregate-put-bytes put-bytes-requires put-decimal-requires slice-aggregate-put-bytes-2 put-bytes-requires-2 put-field-requires same-length returns)
+put-stop-spec =
+    tie.close
+    (tie.spec
+    slice-aggregate-put-bytes
+    put-bytes-requires
+    put-decimal-requires
+    slice-aggregate-put-bytes-2
+    put-bytes-requires-2
+    put-field-requires
+    same-length
+    returns)
