@@ -1,5 +1,5 @@
 #!/usr/bin/env python3
-"""Write what the programs stories, calls and tables have to print.
+"""Write what the programs stories, calls, encoding and tables have to print.
 
     python3 tests/model/make_stories.py CRATES
 
@@ -287,7 +287,7 @@ def traces() -> Iterator[str]:
     )
 
 
-# --- The program calls -------------------------------------------------------
+# --- The programs calls and encoding -------------------------------------------------------
 
 
 def calls() -> Iterator[str]:
@@ -337,6 +337,9 @@ def calls() -> Iterator[str]:
         if once:
             yield "-- step by step"
 
+
+def encoding() -> Iterator[str]:
+    """What the log writer and the number writer store."""
     yield "== The log writer"
     for place in (13, 6, 3):
         buffer = bytearray(b"\xff" * 12)
@@ -428,9 +431,9 @@ def hand_set() -> Iterator[str]:
         {0: at_write(Put(2, 20, 5), 4, 3)},
         {(6, 1): {1: 10}, (5, 2): {1: 99}},
     )
+    yield from played(table, 1, 4, ("as it is", []), ("writer 0 commits", steps(0, WRITE, COMMIT)))
     yield from (point_line(table, at, 1) for at in (1, 2, 3))
     yield from (scan_into(table, 2, room) for room in (3, 6))
-    yield from played(table, 1, 4, ("as it is", []), ("writer 0 commits", steps(0, WRITE, COMMIT)))
 
     yield "== A lock whose holder has no operation"
     table = table_of(
@@ -511,19 +514,21 @@ def grounds() -> Iterator[str]:
     yield from tried("17: timestamp 0", off(timestamp=0))
     yield from tried("17: no ground, timestamp 0 at phase 0", off(timestamp=0, phase=Phase.READY))
 
-    yield "== Out of range, and back"
+    yield "== Out of range"
     table = Table(MAX_TIMESTAMP + 1)
     places = [99] * 4
     yield from ran(table, "run", encode(through(0, Put(1, 10, 1), LOOK_UP)), places)[0]
     yield numbers("all places:", [int(place) for place in places])
     yield numbers("last timestamp:", [table.last_timestamp])
     table.last_timestamp = 0
-    yield from played(table, 1, 1, ("back in range", whole(0, Put(1, 10, 1))))
+    yield "== Back in range"
+    yield from played(table, 1, 1, ("a put", whole(0, Put(1, 10, 1))))
 
 
 PROGRAMS = {
     "stories": (examples, traces),
     "calls": (calls,),
+    "encoding": (encoding,),
     "tables": (hand_set, grounds),
 }
 
