@@ -54,7 +54,8 @@ fn table_of(last: u8, lock: u8, entry: u8, instant: u8, writer: Writer, others: 
     }
 }
 
-// A step by writer 8, as a log and by `advance`, a point read of key 32, a scan and the instant call. In range they give 10, 10, 12, a row and an instant.
+// A step by writer 8, as a log and by `advance`, a point read of key 32, a scan with room and one without, and the instant call. In range they
+// give 10, 10, 12, a row, 31 and the instant.
 fn tried(title: &[u8], t: Table) {
     let mut present = [false; ROWS];
     let mut values: [Value; ROWS] = [0; ROWS];
@@ -81,6 +82,7 @@ fn tried(title: &[u8], t: Table) {
     );
     point_read(t, &present, &values, 64, 32);
     scan_into(t, &present, &values, 64, &mut [9; 4]);
+    scan_into(t, &present, &values, 64, &mut [9; 2]);
     instant(t, 64);
 }
 

@@ -36,7 +36,8 @@ pub fn held_by_none() {
         writer 1's check fails:\x01\x07;\
         writer 3 is at its index step:\x03\x01\x07\x46\x04\x03\x03\x03\x04\x03\x05\x03\x06;\
         writer 3 gives up:\x03\x09;\
-        the holder starts, and gives up:\x02\x01\x08\x50\x04\x02\x09;\
+        the holder is not refused:\x02\x01\x08\x50\x04\x02\x03\x02\x04\x02\x05\x02\x06;\
+        it gives up:\x02\x09;\
         the lock is free:\x03\x01\x07\x46\x04\x03\x03\x03\x04\x03\x05\x03\x06\x03\x07\x03\x08;";
     story(title, held(), &[4, 1, 1, 10, 4, 2, 1, 11], script, 1, 6);
 }

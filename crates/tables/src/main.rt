@@ -1,6 +1,7 @@
 // Tables that are set by hand: in range, though no steps lead to them, and out of range on each ground.
 mod grounds;
 mod locks;
+mod numbers;
 mod set;
 mod slices;
 
@@ -10,6 +11,7 @@ fn main() {
     slices::two_groups_at_once();
     slices::one_key_twice();
     locks::held_by_none();
+    numbers::not_given();
     grounds::of_the_table();
     grounds::of_a_writer();
     grounds::back_in_range();
