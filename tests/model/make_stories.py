@@ -1,5 +1,5 @@
 #!/usr/bin/env python3
-"""Write what the programs stories, calls and tables have to print.
+"""Write what the programs stories, calls, encoding and tables have to print.
 
     python3 tests/model/make_stories.py CRATES
 
@@ -130,9 +130,16 @@ def point_line(table: Table, at: int, key: int) -> str:
     return f"key {key} at {at}: {text}"
 
 
+def written(label: str, answer: int, count: int, buffer: bytes) -> str:
+    """What a writer of bytes gave, and its whole buffer."""
+    stored = "".join(f" {byte:02x}" for byte in buffer)
+    return f"{label}: answer {answer:d}, {count} bytes:{stored}"
+
+
 def played(table: Table, first: int, last: int, *pieces: Piece) -> Iterator[str]:
     """A script on a table: the program runs it as logs and step by step, with
-    the same results. After each piece the rows and instants from one timestamp to another.
+    the same results. After each piece come the rows and the instants from one
+    timestamp to another.
     """
     for once in (True, False):
         here = copy.deepcopy(table)
@@ -163,7 +170,10 @@ def examples() -> Iterator[str]:
     ):
         yield from story(
             title, 1, 2,
-            ("both have read", through(1, Put(1, a, 1), READ) + through(2, second, READ)),
+            (
+                "both have read",
+                through(1, Put(1, a, 1), READ) + through(2, second, READ),
+            ),
             ("writer 1 commits", steps(1, WRITE, COMMIT)),
             ("writer 2's check fails", steps(2, WRITE, CHECK)),
         )
@@ -223,16 +233,29 @@ def examples() -> Iterator[str]:
 def traces() -> Iterator[str]:
     """Document 01's traces, and its rules on refusals, ends, removes and stops."""
     yield from story(
-        "P5", 1, 2,
-        ("both have read", through(0, Put(0, 10, 0), READ) + through(1, Put(1, 11, 0), READ)),
+        "P5", 1, 3,
+        (
+            "both have read",
+            through(0, Put(0, 10, 0), READ) + through(1, Put(1, 11, 0), READ),
+        ),
         ("writer 0 commits", steps(0, WRITE, COMMIT)),
         ("writer 1's check", steps(1, WRITE, CHECK)),
+        ("writer 2 finds the lock free", whole(2, Put(2, 20, 1))),
     )
     yield from story(
-        "P6", 1, 2,
-        ("both have looked up", step(0, Put(1, 10, 0)) + step(1, Put(1, 11, 1)) + step(0, LOOK_UP) + step(1, LOOK_UP)),
+        "P6", 1, 3,
+        (
+            "both have looked up",
+            [
+                Step(0, Put(1, 10, 0)),
+                Step(1, Put(1, 11, 1)),
+                Step(0, LOOK_UP),
+                Step(1, LOOK_UP),
+            ],
+        ),
         ("writer 0 commits", steps(0, READ, COMMIT)),
         ("writer 1's index step", steps(1, READ, INDEX)),
+        ("writer 2 finds the lock free", whole(2, Put(2, 20, 1))),
     )
     yield from story(
         "P7", 1, 3,
@@ -242,18 +265,43 @@ def traces() -> Iterator[str]:
         ("timestamp 2 reads", steps(1, LOOK_UP, READ)),
     )
     yield from story("P8", 1, 1, ("remove", through(0, Remove(5), LOOK_UP)))
-    yield from story("P9", 0, 1, ("writer 8", step(8, Put(1, 10, 1)) + step(8, Put(32, 10, 1))))
+    starts = step(8, Put(1, 10, 1)) + step(8, Put(32, 10, 1))
+    yield from story("P9", 0, 1, ("writer 8", starts))
     yield from story(
         "The order of the refusals", 1, 2,
-        ("two have begun", through(0, Put(1, 10, 1), WRITE) + through(1, Put(2, 20, 2), INDEX)),
-        ("10, then 12 and 13", [Step(9, Put(40, 1, 9)), Step(0, Put(40, 1, 9)), Step(0, Put(1, 1, 9)), Step(0, Remove(32))]),
-        ("14, not 16 nor 15", [Step(0, Put(1, 1, 1)), Step(0, CHECK), Step(0, COMMIT), Step(1, INDEX)]),
+        (
+            "two have begun",
+            through(0, Put(1, 10, 1), WRITE) + through(1, Put(2, 20, 2), INDEX),
+        ),
+        (
+            "10, then 12 and 13",
+            [
+                Step(9, Put(40, 1, 9)),
+                Step(0, Put(40, 1, 9)),
+                Step(0, Put(1, 1, 9)),
+                Step(0, Remove(32)),
+            ],
+        ),
+        (
+            "14, not 16",
+            [
+                Step(0, Put(1, 1, 1)),
+                Step(0, CHECK),
+                Step(0, COMMIT),
+                Step(1, INDEX),
+                Step(2, INDEX),
+            ],
+        ),
         ("16", step(0, INDEX)),
-        ("writer 1 gives up, writer 0 commits", step(1, GIVE_UP) + steps(0, INDEX, COMMIT)),
+        (
+            "writer 1 gives up, writer 0 commits",
+            step(1, GIVE_UP) + steps(0, INDEX, COMMIT),
+        ),
     )
     put = Put(1, 10, 1)
     aborted = [[Step(0, put), Step(0, GIVE_UP)]]
-    aborted += [through(0, put, last) + step(0, GIVE_UP) for last in (LOOK_UP, READ, WRITE, INDEX, CHECK)]
+    for last in (LOOK_UP, READ, WRITE, INDEX, CHECK):
+        aborted.append(through(0, put, last) + step(0, GIVE_UP))
     yield from story(
         "Giving up", 1, 7,
         ("at phase 0", step(0, GIVE_UP)),
@@ -272,7 +320,17 @@ def traces() -> Iterator[str]:
         "The largest number of starts", 63, 65,
         ("63 starts", [Step(0, zero), Step(0, GIVE_UP)] * 63),
         ("the 64th", step(0, zero)),
-        ("another", [Step(1, zero), Step(1, Put(32, 0, 0)), Step(1, Put(0, 0, 8)), Step(1, Remove(0)), Step(0, zero), Step(1, GIVE_UP)]),
+        (
+            "another",
+            [
+                Step(1, zero),
+                Step(1, Put(32, 0, 0)),
+                Step(1, Put(0, 0, 8)),
+                Step(1, Remove(0)),
+                Step(0, zero),
+                Step(1, GIVE_UP),
+            ],
+        ),
         ("its end, the 65th", [Step(0, GIVE_UP), Step(0, zero)]),
     )
     before = {writer: encode([Step(writer, Put(1, 10, 1))]) for writer in range(1, 5)}
@@ -287,17 +345,20 @@ def traces() -> Iterator[str]:
     )
 
 
-# --- The program calls -------------------------------------------------------
+# --- The programs calls and encoding -----------------------------------------
 
 
 def calls() -> Iterator[str]:
     """What the calls answer."""
     table = Table()
     yield "== Point reads"
-    log = encode(whole(1, Put(1, 10, 1)) + whole(2, Put(2, 20, 2)) + whole(3, Put(1, 11, 1)) + whole(4, Put(2, 21, 2)))
+    puts = Put(1, 10, 1), Put(2, 20, 2), Put(1, 11, 1), Put(2, 21, 2)
+    log = encode(sum((whole(writer, put) for writer, put in enumerate(puts, 1)), []))
     yield from ran(table, "two keys are put, and put again", log, [0] * 28)[0]
-    for at, key in ((4, 1), (2, 1), (0, 1), (3, 2), (NEVER_ISSUED, 3), (4, 32), (4, MAX_NUMBER)):
+    for at, key in ((4, 1), (2, 1), (0, 1), (3, 2), (NEVER_ISSUED, 3)):
         yield point_line(table, at, key)
+    for key in (32, MAX_NUMBER):
+        yield point_line(table, 4, key)
 
     timestamps = (*range(9), 64, 65, NEVER_ISSUED)
     table = Table()
@@ -337,18 +398,21 @@ def calls() -> Iterator[str]:
         if once:
             yield "-- step by step"
 
+
+def encoding() -> Iterator[str]:
+    """What the log writer and the number writer store."""
     yield "== The log writer"
     for place in (13, 6, 3):
         buffer = bytearray(b"\xff" * 12)
         answer, count = write_log(through(0, Put(1, 300, 2), LOOK_UP), buffer, place)
-        yield f"place {place} of 12: answer {answer:d}, {count} bytes: {buffer.hex(' ')}"
+        yield written(f"place {place} of 12", answer, count, buffer)
 
     yield "== The number writer"
     for number, room in ((0, 0), (300, 1), (300, 2), (MAX_NUMBER, 4), (MAX_NUMBER, 6)):
         buffer, code = bytearray(b"\xff" * room), encode_number(number)
         count = len(code) if len(code) <= room else 0
         buffer[:count] = code[:count]
-        yield f"{number} into {room}: answer 0, {count} bytes:" + "".join(f" {byte:02x}" for byte in buffer)
+        yield written(f"{number} into {room}", 0, count, buffer)
 
 
 # --- The program tables ------------------------------------------------------
@@ -383,14 +447,23 @@ def table_of(
 
 def hand_set() -> Iterator[str]:
     """Tables in range that no steps lead to."""
-    one_by_one = [("writes", WRITE), ("indexes", INDEX), ("checks", CHECK), ("commits", COMMIT)]
 
     def alone(writer: int) -> list[Piece]:
-        first, *rest = [(label, step(writer, action)) for label, action in one_by_one]
-        return [("as it is", []), (f"writer {writer} {first[0]}", first[1]), *rest]
+        return [
+            ("as it is", []),
+            (f"writer {writer} writes", step(writer, WRITE)),
+            ("indexes", step(writer, INDEX)),
+            ("checks", step(writer, CHECK)),
+            ("commits", step(writer, COMMIT)),
+        ]
 
     yield "== A timestamp that is completed in another file group"
-    table = table_of(1, {1: completed(0)}, {1: at_write(Put(5, 55, 1), 1, 0)}, {(0, 1): {0: 10}})
+    table = table_of(
+        1,
+        {1: completed(0)},
+        {1: at_write(Put(5, 55, 1), 1, 0)},
+        {(0, 1): {0: 10}},
+    )
     yield from played(table, 1, 1, *alone(1))
 
     yield "== A base of another file group"
@@ -405,7 +478,10 @@ def hand_set() -> Iterator[str]:
 
     yield "== One timestamp, two writers, two file groups"
     table = table_of(
-        1, {1: inflight(0)}, {0: at_write(Put(0, 10, 0), 1, 0), 1: at_write(Put(5, 55, 1), 1, 0)}, {}
+        1,
+        {1: inflight(0)},
+        {0: at_write(Put(0, 10, 0), 1, 0), 1: at_write(Put(5, 55, 1), 1, 0)},
+        {},
     )
     yield from played(
         table, 1, 2,
@@ -428,9 +504,13 @@ def hand_set() -> Iterator[str]:
         {0: at_write(Put(2, 20, 5), 4, 3)},
         {(6, 1): {1: 10}, (5, 2): {1: 99}},
     )
+    yield from played(
+        table, 1, 4,
+        ("as it is", []),
+        ("writer 0 commits", steps(0, WRITE, COMMIT)),
+    )
     yield from (point_line(table, at, 1) for at in (1, 2, 3))
     yield from (scan_into(table, 2, room) for room in (3, 6))
-    yield from played(table, 1, 4, ("as it is", []), ("writer 0 commits", steps(0, WRITE, COMMIT)))
 
     yield "== A lock whose holder has no operation"
     table = table_of(
@@ -451,8 +531,33 @@ def hand_set() -> Iterator[str]:
         ("writer 1's check fails", step(1, CHECK)),
         ("writer 3 is at its index step", through(3, put, INDEX)),
         ("writer 3 gives up", step(3, GIVE_UP)),
-        ("the holder starts, and gives up", [Step(2, Put(8, 80, 4)), Step(2, GIVE_UP)]),
+        ("the holder is not refused", through(2, Put(8, 80, 4), INDEX)),
+        ("it gives up", step(2, GIVE_UP)),
         ("the lock is free", whole(3, put)),
+    )
+
+    yield "== Numbers that no steps give"
+    table = table_of(
+        5,
+        {1: completed(2), 2: completed(3)},
+        {
+            0: Writer(Phase.READ, Put(4, 41, 2), 1, 2, 5),
+            1: Writer(Phase.INDEX, Remove(9), 4, 2, 0),
+            3: Writer(Phase.WRITE, Put(8, 80, 2), 4, 2, 5),
+            7: Writer(Phase.READY, Put(31, 7, 7), 5, 7, 5),
+        },
+        {(2, 1): {4: 40}, (3, 2): {6: 60}, (2, 4): {9: 90}},
+    )
+    yield from played(
+        table, 1, 7,
+        ("as it is", []),
+        ("writer 0 reads", step(0, READ)),
+        ("writer 0 commits", steps(0, WRITE, COMMIT)),
+        ("writer 1 indexes", step(1, INDEX)),
+        ("writer 1's check fails", step(1, CHECK)),
+        ("writer 3 commits", steps(3, WRITE, COMMIT)),
+        ("key 9 is in no group", through(2, Put(9, 91, 3), READ)),
+        ("writer 7 starts anew", whole(7, Put(30, 70, 6))),
     )
 
 
@@ -477,6 +582,7 @@ def tried(title: str, table: Table) -> Iterator[str]:
         yield from ran(table, label, encode(step(8, LOOK_UP)), [99])[0]
     yield point_line(table, MAX_TIMESTAMP, KEYS)
     yield scan_into(table, MAX_TIMESTAMP, 4)
+    yield scan_into(table, MAX_TIMESTAMP, 2)
     yield instant_line(table, MAX_TIMESTAMP)
 
 
@@ -505,25 +611,29 @@ def grounds() -> Iterator[str]:
     yield from tried("17: instant above the last timestamp", above)
     yield from tried("17: phase", off(phase=7))
     yield from tried("17: key", off(operation=put._replace(key=KEYS)))
-    yield from tried("17: group", off(operation=put._replace(group=GROUPS), group=GROUPS))
+    group = off(operation=put._replace(group=GROUPS), group=GROUPS)
+    yield from tried("17: group", group)
     yield from tried("17: timestamp", off(timestamp=MAX_TIMESTAMP + 1))
     yield from tried("17: base", off(base=MAX_TIMESTAMP + 1))
     yield from tried("17: timestamp 0", off(timestamp=0))
-    yield from tried("17: no ground, timestamp 0 at phase 0", off(timestamp=0, phase=Phase.READY))
+    ready = off(timestamp=0, phase=Phase.READY)
+    yield from tried("17: no ground, timestamp 0 at phase 0", ready)
 
-    yield "== Out of range, and back"
+    yield "== Out of range"
     table = Table(MAX_TIMESTAMP + 1)
     places = [99] * 4
     yield from ran(table, "run", encode(through(0, Put(1, 10, 1), LOOK_UP)), places)[0]
     yield numbers("all places:", [int(place) for place in places])
     yield numbers("last timestamp:", [table.last_timestamp])
     table.last_timestamp = 0
-    yield from played(table, 1, 1, ("back in range", whole(0, Put(1, 10, 1))))
+    yield "== Back in range"
+    yield from played(table, 1, 1, ("a put", whole(0, Put(1, 10, 1))))
 
 
 PROGRAMS = {
     "stories": (examples, traces),
     "calls": (calls,),
+    "encoding": (encoding,),
     "tables": (hand_set, grounds),
 }
 

@@ -22,6 +22,7 @@ from table_model import (
     LogWrite,
     Malformed,
     Operation,
+    Phase,
     Put,
     Remove,
     Row,
@@ -514,6 +515,40 @@ class Reading(TableTest):
         self.assert_rows(1)
         self.take(*whole(0, Put(2, 20, 3)))
         self.assert_rows(2, (2, 20, 3))
+
+    def test_timestamp_completed_in_another_group(self) -> None:
+        """Not reached from a fresh table: the slice of the other group stays."""
+        self.table.last_timestamp = 1
+        self.table.timeline = {1: Instant(State.COMPLETED, 0)}
+        self.table.slices = {(0, 1): {0: 10}}
+        self.table.writers[1] = Writer(Phase.WRITE, Put(5, 55, 1), 1, 1, 0)
+        self.take(Step(1, WRITE))
+        self.assert_rows(1, (0, 10, 0))
+
+    def test_base_completed_in_another_group(self) -> None:
+        """Not reached from a fresh table: the writer's group has no slice there."""
+        self.table.last_timestamp = 2
+        self.table.timeline = {
+            1: Instant(State.COMPLETED, 1),
+            2: Instant(State.INFLIGHT, 0),
+        }
+        self.table.slices = {(1, 1): {5: 7}}
+        self.table.index = {5: 1}
+        self.table.writers[0] = Writer(Phase.WRITE, Put(2, 9, 0), 2, 0, 1)
+        self.assert_last(1, between(0, WRITE, COMMIT))
+        self.assert_rows(2, (2, 9, 0), (5, 7, 1))
+
+    def test_one_timestamp_in_two_groups(self) -> None:
+        """Not reached from a fresh table: the last commit names the group."""
+        self.table.last_timestamp = 1
+        self.table.timeline = {1: Instant(State.INFLIGHT, 0)}
+        for writer, put in enumerate((Put(0, 10, 0), Put(5, 55, 1))):
+            self.table.writers[writer] = Writer(Phase.WRITE, put, 1, put.group, 0)
+        self.take(Step(0, WRITE), Step(1, WRITE))
+        self.assert_last(1, between(0, INDEX, COMMIT))
+        self.assert_rows(1, (0, 10, 0))
+        self.assert_last(1, between(1, INDEX, COMMIT))
+        self.assert_rows(1, (5, 55, 1))
 
     def test_own_lock_does_not_refuse(self) -> None:
         """Not reached from a fresh table."""

@@ -3,23 +3,14 @@ mod examples;
 mod traces;
 
 fn main() {
-    examples::two_keys();
-    examples::one_key();
+    examples::two_keys_or_one();
     examples::lost_write();
-    examples::lost_write_swapped();
     examples::two_groups();
-    examples::lock_held();
     examples::out_of_order();
-    examples::out_of_order_after_read();
     examples::out_of_order_two_groups();
-    traces::p5();
-    traces::p6();
-    traces::p7();
-    traces::p8();
-    traces::p9();
+    traces::conflicts();
     traces::refusals();
-    traces::giving_up();
-    traces::removes();
+    traces::ends();
     traces::starts();
     traces::stops();
 }

@@ -1,89 +1,70 @@
 // Document 01's traces, and its rules on refusals, ends, removes and stops, each once through.
 use scripts::story;
 
-// Two keys, one proposed group, both read; writer 0 commits.
-pub fn p5() {
-    let title = b"P5";
-    let script = b"\
+pub fn conflicts() {
+    // Two keys, one proposed group, both read; writer 0 commits.
+    let p5 = b"\
         both have read:\x00\x01\x00\x0a\x00\x00\x03\x00\x04\x01\x01\x01\x0b\x00\x01\x03\x01\x04;\
         writer 0 commits:\x00\x05\x00\x06\x00\x07\x00\x08;\
-        writer 1's check:\x01\x05\x01\x06\x01\x07;";
-    story(title, script, 1, 2);
-}
-
-// One key, two proposed groups, both look up first; writer 0 commits.
-pub fn p6() {
-    let title = b"P6";
-    let script = b"\
+        writer 1's check:\x01\x05\x01\x06\x01\x07;\
+        writer 2 finds the lock free:\x02\x01\x02\x14\x01\x02\x03\x02\x04\x02\x05\x02\x06\x02\x07\x02\x08;";
+    story(b"P5", p5, 1, 3);
+    // One key, two proposed groups, both look up first; writer 0 commits.
+    let p6 = b"\
         both have looked up:\x00\x01\x01\x0a\x00\x01\x01\x01\x0b\x01\x00\x03\x01\x03;\
         writer 0 commits:\x00\x04\x00\x05\x00\x06\x00\x07\x00\x08;\
-        writer 1's index step:\x01\x04\x01\x05\x01\x06;";
-    story(title, script, 1, 2);
-}
-
-// One key, one proposed group; timestamps 1 and 3 commit, then 2 reads. Its instant stays requested.
-pub fn p7() {
-    let title = b"P7";
-    let script = b"\
+        writer 1's index step:\x01\x04\x01\x05\x01\x06;\
+        writer 2 finds the lock free:\x02\x01\x02\x14\x01\x02\x03\x02\x04\x02\x05\x02\x06\x02\x07\x02\x08;";
+    story(b"P6", p6, 1, 3);
+    // One key, one proposed group; timestamps 1 and 3 commit, then 2 reads. Its instant stays requested.
+    let p7 = b"\
         three have started:\x00\x01\x01\x0a\x03\x01\x01\x01\x0b\x03\x02\x01\x01\x0c\x03;\
         timestamp 1 commits:\x00\x03\x00\x04\x00\x05\x00\x06\x00\x07\x00\x08;\
         timestamp 3 commits:\x02\x03\x02\x04\x02\x05\x02\x06\x02\x07\x02\x08;\
         timestamp 2 reads:\x01\x03\x01\x04;";
-    story(title, script, 1, 3);
+    story(b"P7", p7, 1, 3);
 }
 
-// A remove of a key that is not indexed: its instant stays requested.
-pub fn p8() {
-    let title = b"P8";
-    let script = b"\
-        remove:\x00\x02\x05\x00\x03;";
-    story(title, script, 1, 1);
-}
-
-// Starts by a writer that does not exist, the second with a key that does not exist either.
-pub fn p9() {
-    let title = b"P9";
-    let script = b"\
-        writer 8:\x08\x01\x01\x0a\x01\x08\x01\x20\x0a\x01;";
-    story(title, script, 0, 1);
-}
-
-// Each step has two grounds or more, and gets the answer that comes first; then one ground less. Writer 1 holds the lock.
 pub fn refusals() {
-    let title = b"The order of the refusals";
-    let script = b"\
+    // A remove of a key that is not indexed: its instant stays requested.
+    let p8 = b"\
+        remove:\x00\x02\x05\x00\x03;";
+    story(b"P8", p8, 1, 1);
+    // Starts by a writer that does not exist, the second with a key that does not exist either.
+    let p9 = b"\
+        writer 8:\x08\x01\x01\x0a\x01\x08\x01\x20\x0a\x01;";
+    story(b"P9", p9, 0, 1);
+    // Each step has two grounds or more, and gets the answer that comes first; then one ground less. Writer 1 holds the lock.
+    let in_order = b"\
         two have begun:\x00\x01\x01\x0a\x01\x00\x03\x00\x04\x00\x05\x01\x01\x02\x14\x02\x01\x03\x01\x04\x01\x05\x01\x06;\
         10, then 12 and 13:\x09\x01\x28\x01\x09\x00\x01\x28\x01\x09\x00\x01\x01\x01\x09\x00\x02\x20;\
-        14, not 16 nor 15:\x00\x01\x01\x01\x01\x00\x07\x00\x08\x01\x06;\
+        14, not 16:\x00\x01\x01\x01\x01\x00\x07\x00\x08\x01\x06\x02\x06;\
         16:\x00\x06;\
         writer 1 gives up, writer 0 commits:\x01\x09\x00\x06\x00\x07\x00\x08;";
-    story(title, script, 1, 2);
+    story(b"The order of the refusals", in_order, 1, 2);
 }
 
-// A writer gives up at each phase from 1 on, and at phase 0 it cannot. Its index entry stays, and the lock is free again.
-pub fn giving_up() {
-    let title = b"Giving up";
-    let script = b"\
+pub fn ends() {
+    // A writer gives up at each phase from 1 on, and at phase 0 it cannot. Its index entry stays, and the lock is free again.
+    let giving_up = b"\
         at phase 0:\x00\x09;\
-        at phases 1 to 4:\x00\x01\x01\x0a\x01\x00\x09\x00\x01\x01\x0a\x01\x00\x03\x00\x09\x00\x01\x01\x0a\x01\x00\x03\x00\x04\x00\x09\x00\x01\x01\x0a\x01\x00\x03\x00\x04\x00\x05\x00\x09;\
-        at phases 5 and 6:\x00\x01\x01\x0a\x01\x00\x03\x00\x04\x00\x05\x00\x06\x00\x09\x00\x01\x01\x0a\x01\x00\x03\x00\x04\x00\x05\x00\x06\x00\x07\x00\x09;\
+        at phases 1 to 4:\x00\x01\x01\x0a\x01\x00\x09\x00\x01\x01\x0a\x01\x00\x03\x00\x09\
+        \x00\x01\x01\x0a\x01\x00\x03\x00\x04\x00\x09\x00\x01\x01\x0a\x01\x00\x03\x00\x04\x00\x05\x00\x09;\
+        at phases 5 and 6:\x00\x01\x01\x0a\x01\x00\x03\x00\x04\x00\x05\x00\x06\x00\x09\
+        \x00\x01\x01\x0a\x01\x00\x03\x00\x04\x00\x05\x00\x06\x00\x07\x00\x09;\
         key 1 stays in group 1:\x01\x01\x01\x0b\x02\x01\x03\x01\x04\x01\x05\x01\x06\x01\x07\x01\x08;";
-    story(title, script, 1, 7);
-}
-
-// A key is put, removed, and put again with another proposed group: it keeps its own. Its neighbour stays.
-pub fn removes() {
-    let title = b"A remove, and a put after it";
-    let script = b"\
-        keys 1 and 2 are put:\x00\x01\x01\x0a\x03\x00\x03\x00\x04\x00\x05\x00\x06\x00\x07\x00\x08\x00\x01\x02\x14\x03\x00\x03\x00\x04\x00\x05\x00\x06\x00\x07\x00\x08;\
+    story(b"Giving up", giving_up, 1, 7);
+    // A key is put, removed, and put again with another proposed group: it keeps its own. Its neighbour stays.
+    let removes = b"\
+        keys 1 and 2 are put:\x00\x01\x01\x0a\x03\x00\x03\x00\x04\x00\x05\x00\x06\x00\x07\x00\x08\
+        \x00\x01\x02\x14\x03\x00\x03\x00\x04\x00\x05\x00\x06\x00\x07\x00\x08;\
         key 1 is removed:\x01\x02\x01\x01\x03\x01\x04\x01\x05\x01\x06\x01\x07\x01\x08;\
         key 1 is put again:\x02\x01\x01\x0b\x05\x02\x03\x02\x04\x02\x05\x02\x06\x02\x07\x02\x08;";
-    story(title, script, 1, 4);
+    story(b"A remove, and a put after it", removes, 1, 4);
 }
 
-// A writer starts and gives up, again and again: the 64th start is taken, the 65th is refused, but on other grounds first.
 pub fn starts() {
-    let title = b"The largest number of starts";
+    // A writer starts and gives up, again and again: the 64th start is taken, the 65th is refused, but on other grounds first.
     let script = b"\
         63 starts:\0\x01\0\0\0\0\t\0\x01\0\0\0\0\t\0\x01\0\0\0\0\t\0\x01\0\0\0\0\t\0\x01\0\0\0\0\t\0\x01\0\0\0\0\t\0\x01\0\0\0\0\t\
         \0\x01\0\0\0\0\t\0\x01\0\0\0\0\t\0\x01\0\0\0\0\t\0\x01\0\0\0\0\t\0\x01\0\0\0\0\t\0\x01\0\0\0\0\t\0\x01\0\0\0\0\t\
@@ -97,12 +78,11 @@ pub fn starts() {
         the 64th:\0\x01\0\0\0;\
         another:\x01\x01\x00\x00\x00\x01\x01\x20\x00\x00\x01\x01\x00\x00\x08\x01\x02\x00\x00\x01\x00\x00\x00\x01\x09;\
         its end, the 65th:\x00\x09\x00\x01\x00\x00\x00;";
-    story(title, script, 63, 65);
+    story(b"The largest number of starts", script, 63, 65);
 }
 
-// Every stop of a run but 24; a record is taken before each refused one.
 pub fn stops() {
-    let title = b"Stops of a run";
+    // Every stop of a run but 24; a record is taken before each refused one.
     let script = b"\
         empty log:;\
         document 01's log:\x00\x01\x01\xac\x02\x02\x00\x03\x00\x04\x00\x05\x00\x06\x00\x07\x00\x08;\
@@ -110,5 +90,5 @@ pub fn stops() {
         number longer than needed:\x02\x01\x01\x0a\x01\x02\x83\x00;\
         number too large:\x03\x01\x01\x0a\x01\xff\xff\xff\xff\x10;\
         no such kind:\x04\x01\x01\x0a\x01\x04\x0a;";
-    story(title, script, 1, 1);
+    story(b"Stops of a run", script, 1, 1);
 }

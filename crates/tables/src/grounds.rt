@@ -1,5 +1,8 @@
-// Answer 17, ground by ground.
-use crate::set::set_row;
+// Answer 17, ground by ground: a table with every number at its largest, then with one number out of range.
+use crate::set::bare;
+use crate::set::putting;
+use crate::set::set_rows;
+use crate::set::story;
 use model::Table;
 use model::Value;
 use model::Writer;
@@ -11,63 +14,60 @@ use model::limits::ROWS;
 use model::limits::TIMESTAMPS;
 use model::limits::WRITERS;
 use scripts::instant;
-use scripts::play;
 use scripts::point_read;
 use scripts::run_printed;
 use scripts::scan_into;
 
-// The largest numbers of a table in range.
+// The largest numbers in range.
 const LAST: u8 = TIMESTAMPS as u8;
+
+const LOCK: u8 = WRITERS as u8;
 
 const KEY: u8 = KEYS as u8 - 1;
 
 const GROUP: u8 = GROUPS as u8 - 1;
 
-const WRITER: usize = WRITERS - 1;
+const ENTRY: u8 = GROUPS as u8;
 
-// A writer with every number at its largest, where `ts` is the last timestamp.
-fn largest_writer(ts: u8) -> Writer {
-    Writer {
-        phase: 6,
-        put: true,
-        key: KEY,
-        group: GROUP,
-        ts,
-        base: ts,
-        value: u32::MAX,
-    }
+const INSTANT: u8 = COMPLETED + GROUP;
+
+// The writer numbers of an operation with the last key and group.
+fn writer(phase: u8, key: u8, group: u8, ts: u8, base: u8) -> Writer {
+    putting(phase, key, u32::MAX, group, ts, base)
 }
 
-// A table with every number at its largest, where `last` is the last timestamp.
-fn largest(last: u8) -> Table {
+// A table with the largest numbers but for these: the last timestamp, the lock, the last key's entry, the instant of timestamp 64, the last
+// writer, and the writers before it.
+fn table_of(last: u8, lock: u8, entry: u8, instant: u8, writer: Writer, others: Writer) -> Table {
+    let mut index = [ENTRY; KEYS];
+    let mut timeline = [INSTANT; TIMESTAMPS];
+    let mut writers = [others; WRITERS];
+    index[31] = entry;
+    timeline[63] = instant;
+    writers[7] = writer;
     Table {
         last,
-        lock: WRITERS as u8,
-        writers: [largest_writer(last); WRITERS],
-        index: [GROUPS as u8; KEYS],
-        timeline: [COMPLETED + GROUP; TIMESTAMPS],
+        lock,
+        writers,
+        index,
+        timeline,
     }
 }
 
-fn with_writer(t: Table, writer: Writer) -> Table {
-    let mut t = t;
-    t.writers[WRITER] = writer;
-    t
-}
-
-// On a table whose slice of the last file group and timestamp has a row of the last key: a step by writer 8, as a log and by `advance`, a point read
-// of key 32, a scan and the instant call. In range they give 10, 12, the row and the instant.
-fn tried(label: &[u8], t: Table) {
+// A step by writer 8, as a log and by `advance`, a point read of key 32, a scan with room and one without, and the instant call. In range they
+// give 10, 10, 12, a row, 31 and the instant.
+fn tried(title: &[u8], t: Table) {
     let mut present = [false; ROWS];
     let mut values: [Value; ROWS] = [0; ROWS];
-    set_row(&mut present, &mut values, 7, 64, 31, u32::MAX);
-    report::title(label);
+    let step = b"\x08\x03";
+    set_rows(&mut present, &mut values, &[7, 64, 31, u32::MAX]);
+    report::title(title);
     run_printed(
         t,
         &mut present,
         &mut values,
         b"run:",
-        b"\x08\x03",
+        step,
         &mut [99; 1],
         false,
     );
@@ -76,76 +76,88 @@ fn tried(label: &[u8], t: Table) {
         &mut present,
         &mut values,
         b"advance:",
-        b"\x08\x03",
+        step,
         &mut [99; 1],
         true,
     );
     point_read(t, &present, &values, 64, 32);
     scan_into(t, &present, &values, 64, &mut [9; 4]);
+    scan_into(t, &present, &values, 64, &mut [9; 2]);
     instant(t, 64);
 }
 
-fn of_the_table() {
-    let mut t = largest(LAST);
-    tried(b"17: no ground", t);
-    t.last = LAST + 1;
-    tried(b"17: last timestamp", t);
-    t = largest(LAST);
-    t.lock = WRITERS as u8 + 1;
-    tried(b"17: lock", t);
-    t = largest(LAST);
-    t.index[31] = GROUPS as u8 + 1;
-    tried(b"17: index entry", t);
-    t = largest(LAST);
-    t.timeline[63] = COMPLETED + GROUPS as u8;
-    tried(b"17: group of an instant", t);
-    t = largest(LAST - 1);
-    t.timeline[63] = REQUESTED;
-    tried(b"17: instant above the last timestamp", t);
+pub fn of_the_table() {
+    let x = writer(6, KEY, GROUP, LAST, LAST);
+    let y = writer(6, KEY, GROUP, LAST - 1, LAST - 1);
+    tried(b"17: no ground", table_of(LAST, LOCK, ENTRY, INSTANT, x, x));
+    tried(
+        b"17: last timestamp",
+        table_of(LAST + 1, LOCK, ENTRY, INSTANT, x, x),
+    );
+    tried(b"17: lock", table_of(LAST, LOCK + 1, ENTRY, INSTANT, x, x));
+    tried(
+        b"17: index entry",
+        table_of(LAST, LOCK, ENTRY + 1, INSTANT, x, x),
+    );
+    tried(
+        b"17: group of an instant",
+        table_of(LAST, LOCK, ENTRY, INSTANT + 1, x, x),
+    );
+    tried(
+        b"17: instant above the last timestamp",
+        table_of(LAST - 1, LOCK, ENTRY, REQUESTED, y, y),
+    );
 }
 
-fn of_a_writer() {
-    let t = largest(LAST);
-    let mut x = largest_writer(LAST);
-    x.phase = 7;
-    tried(b"17: phase", with_writer(t, x));
-    x = largest_writer(LAST);
-    x.key = KEY + 1;
-    tried(b"17: key", with_writer(t, x));
-    x = largest_writer(LAST);
-    x.group = GROUP + 1;
-    tried(b"17: group", with_writer(t, x));
-    x = largest_writer(LAST);
-    x.ts = LAST + 1;
-    tried(b"17: timestamp", with_writer(t, x));
-    x = largest_writer(LAST);
-    x.base = LAST + 1;
-    tried(b"17: base", with_writer(t, x));
-    x = largest_writer(LAST);
-    x.ts = 0;
-    tried(b"17: timestamp 0", with_writer(t, x));
-    x.phase = 0;
-    tried(b"17: no ground, timestamp 0 at phase 0", with_writer(t, x));
+// A table in which only the last writer has other numbers.
+fn with_writer(x: Writer) -> Table {
+    table_of(
+        LAST,
+        LOCK,
+        ENTRY,
+        INSTANT,
+        x,
+        writer(6, KEY, GROUP, LAST, LAST),
+    )
 }
 
-pub fn one_by_one() {
-    of_the_table();
-    of_a_writer();
+pub fn of_a_writer() {
+    tried(b"17: phase", with_writer(writer(7, KEY, GROUP, LAST, LAST)));
+    tried(
+        b"17: key",
+        with_writer(writer(6, KEY + 1, GROUP, LAST, LAST)),
+    );
+    tried(
+        b"17: group",
+        with_writer(writer(6, KEY, GROUP + 1, LAST, LAST)),
+    );
+    tried(
+        b"17: timestamp",
+        with_writer(writer(6, KEY, GROUP, LAST + 1, LAST)),
+    );
+    tried(
+        b"17: base",
+        with_writer(writer(6, KEY, GROUP, LAST, LAST + 1)),
+    );
+    tried(
+        b"17: timestamp 0",
+        with_writer(writer(6, KEY, GROUP, 0, LAST)),
+    );
+    tried(
+        b"17: no ground, timestamp 0 at phase 0",
+        with_writer(writer(0, KEY, GROUP, 0, LAST)),
+    );
 }
 
-// A table whose last timestamp is too large: every step is refused and changes nothing. With the last timestamp 0 again it is a fresh table.
+// A last timestamp that is too large: every step is refused and changes nothing. With the last timestamp 0 again it is a fresh table.
 pub fn back_in_range() {
-    let log = b"\x00\x01\x01\x0a\x01\x00\x03";
-    let script =
-        b"back in range:\x00\x01\x01\x0a\x01\x00\x03\x00\x04\x00\x05\x00\x06\x00\x07\x00\x08;";
     let mut present = [false; ROWS];
     let mut values: [Value; ROWS] = [0; ROWS];
     let mut places = [99u8; 4];
-    let mut t = table::fresh(&mut present, &mut values);
-    t.last = LAST + 1;
-    report::title(b"Out of range, and back");
+    let log = b"\x00\x01\x01\x0a\x01\x00\x03";
+    report::title(b"Out of range");
     let ran = run_printed(
-        t,
+        bare(LAST + 1),
         &mut present,
         &mut values,
         b"run:",
@@ -154,8 +166,9 @@ pub fn back_in_range() {
         false,
     );
     report::answers(b"all places:", &places, 4);
-    t = ran.table;
+    let mut t = ran.table;
     report::answers(b"last timestamp:", &[t.last], 1);
     t.last = 0;
-    play(t, &present, &values, script, 1, 1);
+    let script = b"a put:\x00\x01\x01\x0a\x01\x00\x03\x00\x04\x00\x05\x00\x06\x00\x07\x00\x08;";
+    story(b"Back in range", t, &[], script, 1, 1);
 }

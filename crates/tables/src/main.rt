@@ -1,6 +1,7 @@
 // Tables that are set by hand: in range, though no steps lead to them, and out of range on each ground.
 mod grounds;
-mod held;
+mod locks;
+mod numbers;
 mod set;
 mod slices;
 
@@ -8,8 +9,10 @@ fn main() {
     slices::completed_elsewhere();
     slices::base_of_another_group();
     slices::two_groups_at_once();
-    slices::unreached();
-    held::lock_of_another();
-    grounds::one_by_one();
+    slices::one_key_twice();
+    locks::held_by_none();
+    numbers::not_given();
+    grounds::of_the_table();
+    grounds::of_a_writer();
     grounds::back_in_range();
 }

@@ -1,11 +1,50 @@
-// Parts of a table, set by hand.
+// Tables and rows, set by hand.
 ghost use Prim.Native.Nat.{_<_, _≤_};
 ghost use Rattle.model.specs.Limits.{keys, groups, timestamps, rows};
+use common::Word;
+use model::Table;
 use model::Value;
 use model::Writer;
+use model::instants::NONE;
 use model::limits::GROUPS;
 use model::limits::KEYS;
 use model::limits::ROWS;
+use model::limits::TIMESTAMPS;
+use model::limits::WRITERS;
+use scripts::play;
+
+// A writer with a put.
+pub fn putting(phase: u8, key: u8, value: Value, group: u8, ts: u8, base: u8) -> Writer {
+    Writer {
+        phase,
+        put: true,
+        key,
+        group,
+        ts,
+        base,
+        value,
+    }
+}
+
+// A table with a last timestamp and nothing else.
+pub fn bare(last: u8) -> Table {
+    let ready = Writer {
+        phase: 0,
+        put: false,
+        key: 0,
+        group: 0,
+        ts: 0,
+        base: 0,
+        value: 0,
+    };
+    Table {
+        last,
+        lock: 0,
+        writers: [ready; WRITERS],
+        index: [0; KEYS],
+        timeline: [NONE; TIMESTAMPS],
+    }
+}
 
 // Where the row of a key stands in the slice of a file group and a timestamp.
 fn row_place(group: usize, ts: usize, key: usize) -> usize
@@ -15,31 +54,46 @@ fn row_place(group: usize, ts: usize, key: usize) -> usize
     ((ts - 1) * GROUPS + group) * KEYS + key
 }
 
-// A row is present, with a value.
-pub fn set_row(
+// A row of the slice of a file group and a timestamp.
+fn set_row(
     present: &mut [bool; ROWS],
     values: &mut [Value; ROWS],
-    group: usize,
-    ts: usize,
-    key: usize,
+    group: Word,
+    ts: Word,
+    key: Word,
     value: Value,
-)
-    requires { ⌜ (group < groups) × ((0 < ts) × (ts ≤ timestamps)) × (key < keys) ⌝ }
-{
-    let row = row_place(group, ts, key);
-    present[row] = true;
-    values[row] = value;
+) {
+    if group < GROUPS as Word && 0 < ts && ts <= TIMESTAMPS as Word && key < KEYS as Word {
+        let row = row_place(group as usize, ts as usize, key as usize);
+        present[row] = true;
+        values[row] = value;
+    }
 }
 
-// A writer with a put, at its write step.
-pub fn writing(key: u8, value: Value, group: u8, ts: u8, base: u8) -> Writer {
-    Writer {
-        phase: 3,
-        put: true,
-        key,
-        group,
-        ts,
-        base,
-        value,
+// The rows of a table, each four numbers: file group, timestamp, key and value.
+pub fn set_rows(present: &mut [bool; ROWS], values: &mut [Value; ROWS], rows: &[Word]) {
+    let mut i: usize = 0;
+    while i < rows.len() {
+        if rows.len() - i < 4 {
+            return;
+        }
+        set_row(
+            present,
+            values,
+            rows[i],
+            rows[i + 1],
+            rows[i + 2],
+            rows[i + 3],
+        );
+        i += 4;
     }
+}
+
+// A script on a table with these rows, and no others.
+pub fn story(title: &[u8], t: Table, rows: &[Word], script: &[u8], first: u64, last: u64) {
+    let mut present = [false; ROWS];
+    let mut values: [Value; ROWS] = [0; ROWS];
+    set_rows(&mut present, &mut values, rows);
+    report::title(title);
+    play(t, &present, &values, script, first, last);
 }

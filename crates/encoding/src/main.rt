@@ -1,7 +1,7 @@
-// The log writer and the number writer.
+// What the log writer and the number writer store, and that they store nothing where they refuse.
 ghost use mathlib.Core.Path.{_≡_};
 ghost use Rattle.steplog.specs.Writing.{logWritten};
-ghost use Rattle.calls.specs.Steps.{putAndLookUp};
+ghost use Rattle.encoding.specs.Steps.{putAndLookUp};
 use common::Word;
 use model::Action;
 use model::Operation;
@@ -42,7 +42,7 @@ fn write_printed(label: &[u8], at: usize) {
 }
 
 // Into a buffer of twelve bytes: past its end, where eight bytes don't fit, and where they do.
-pub fn log_writer() {
+fn log_writer() {
     report::title(b"The log writer");
     write_printed(b"place 13 of 12", 13);
     write_printed(b"place 6 of 12", 6);
@@ -56,11 +56,16 @@ fn encode_printed(label: &[u8], number: Word, buffer: &mut [u8]) {
 }
 
 // Into buffers that have no room for the code, just enough, and more.
-pub fn number_writer() {
+fn number_writer() {
     report::title(b"The number writer");
     encode_printed(b"0 into 0", 0, &mut [255; 0]);
     encode_printed(b"300 into 1", 300, &mut [255; 1]);
     encode_printed(b"300 into 2", 300, &mut [255; 2]);
     encode_printed(b"4294967295 into 4", u32::MAX, &mut [255; 4]);
     encode_printed(b"4294967295 into 6", u32::MAX, &mut [255; 6]);
+}
+
+fn main() {
+    log_writer();
+    number_writer();
 }

@@ -19,9 +19,9 @@ use Rattle.walks.proofs.Calling.{Callee, calls-on, calls-plain, owned-all, told
 use Rattle.walks.proofs.Lending.{refTo, renamed, lends-again, comes-back, lends-array, array-back}
 use Rattle.steplog.proofs.writing.Written as R
 use Rattle.steplog.proofs.write_log as write-log
-use Rattle.calls.specs.Steps.{putAndLookUp}
-use Rattle.calls.proofs.writing.put_and_look_up as steps
-use Rattle.calls.proofs.writing.write_two as f
+use Rattle.encoding.specs.Steps.{putAndLookUp}
+use Rattle.encoding.proofs.put_and_look_up as steps
+use Rattle.encoding.proofs.write_two as f
 
 abbrev stayed : Stays (f.ended .signature .params) (f.ended .kept)
 stayed = (stay-slice (0 ∷ []) tt (plain (λ _. u8)), (stay-none (λ _. usize) yes, tt))
@@ -112,6 +112,6 @@ write-two-spec 𝓤 H 𝓜 𝓖 𝓡 =
     met-by 𝓤 H 𝓜 𝓡 f.Code.env 𝓖 f.ended stayed (goes-slice 𝓤 H (𝓖 .A) (givenOf 𝓤 H 𝓜 𝓖) 1 0 tt (plain (λ _. u8)), (goes-none 𝓤 H (𝓖 .A) (givenOf 𝓤 H 𝓜 𝓖) 1 (λ _. usize) yes (λ κs x f. refl), tt))
     (f.clauses 𝓤 H (𝓖 .A) (𝓜 .mem) (𝓡 .run)) f.Key.name f.Code.function (f.Code.unfolded 𝓤 H 𝓜 𝓡) (λ κs. (slice-vals, (uint-vals w64, tt))) (λ κs. (mut-slice-tells (named 0) (κs .0) u8, (uint-tells w64, tt)))
     (λ κs qs bounds a g are. via 𝓤 _ (fst∗ 𝓤 _ (emp 𝓤)) (walk 𝓤 H (𝓖 .A) (givenOf 𝓤 H 𝓜 𝓖) (𝓜 .mem) (𝓡 .run) (tablesAt 𝓤 H 𝓜 𝓡 f.Code.env)
-    (cited 𝓤 H (Callee 𝓤 H (𝓖 .A) steps.ended (steps.clauses 𝓤 H (𝓖 .A) (𝓜 .mem) (𝓡 .run))) 𝓜 𝓡 f.Code.env steps.Symbol.name steps.Symbol.routine f.Code.calls-calls·writing·put-and-look-up (steps.Met.met 𝓤 H 𝓜 𝓖 𝓡))
+    (cited 𝓤 H (Callee 𝓤 H (𝓖 .A) steps.ended (steps.clauses 𝓤 H (𝓖 .A) (𝓜 .mem) (𝓡 .run))) 𝓜 𝓡 f.Code.env steps.Symbol.name steps.Symbol.routine f.Code.calls-encoding·put-and-look-up (steps.Met.met 𝓤 H 𝓜 𝓖 𝓡))
     (cited 𝓤 H (Callee 𝓤 H (𝓖 .A) write-log.ended (write-log.clauses 𝓤 H (𝓖 .A) (𝓜 .mem) (𝓡 .run))) 𝓜 𝓡 f.Code.env write-log.Symbol.name write-log.Symbol.routine f.Code.calls-steplog·write-log (write-log.Met.met 𝓤 H 𝓜 𝓖 𝓡))
     (κs .0) (qs .0) (a .0) (a .1 .0) (are .0 .0 .1) (are .1 .0 .1)))
