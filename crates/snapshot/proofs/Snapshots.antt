@@ -17,7 +17,7 @@ use Rattle.model.specs.Limits.{keys, groups}
 use Rattle.model.specs.Answers.{taken, noKey, outOfRange, noRoom}
 use Rattle.model.specs.State.{State}
 use Rattle.model.specs.Range.{inRange}
-use Rattle.model.specs.Snapshot.{rowsOf, allRows, newestAt, rowsAt, Listed, unlisted, listed, numbers, scan, firstOf, pointRead}
+use Rattle.model.specs.Snapshot.{rowsOf, allRows, newestAt, rowsAt, Listed, unlisted, numbers, scan, firstOf, pointRead}
 use Rattle.model.specs.declared.Found.the-variants.{Refused}
 use Rattle.model.proofs.RangeKept.{ranged}
 use Rattle.snapshot.specs.declared.rows.Shown.{Shown}

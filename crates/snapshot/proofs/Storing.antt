@@ -8,7 +8,7 @@ use native.Mathlib.Omega.{arith}
 use mathlib.Core.Bool.{Bool, true, false}
 use mathlib.Core.Logic.{by-cases}
 use mathlib.Core.Path.{_≡_, sym, _∙_, ap}
-use mathlib.Core.List.{List, [], _∷_, _++_}
+use mathlib.Core.List.{List, [], _∷_}
 use lib.ListN.{getD, length}
 use Rattle.common.specs.Counting.{listBelow}
 use Rattle.common.specs.Pasting.{pasted, PastedTo}
@@ -135,8 +135,8 @@ module _ {slices values : List ℕ} {present : List Bool} {k count lowest at roo
         (λ m. let e : lowest ≡ groups = omega (arith, h .low .small) in absurd (omega (arith, h .all, ap length (rw e at hidden))))
 
     -- the first row, and the others
-    all-rows : rowsOf present values (sliceIn slices) k ≡ rowShown slices values k lowest ∷ rowsFrom present values (sliceIn slices) k (lowest + 1)
-    all-rows =
+    first-others : rowsOf present values (sliceIn slices) k ≡ rowShown slices values k lowest ∷ rowsFrom present values (sliceIn slices) k (lowest + 1)
+    first-others =
         list-rest (lowest + 1) groups shows (omega (arith, key-inside))
         ∙ rw (list-more lowest shows, hidden, shown-row slices present values (h .key) key-inside (h .low .here key-inside))
 
@@ -153,7 +153,7 @@ module _ {slices values : List ℕ} {present : List Bool} {k count lowest at roo
             slice = h .slice;
             key = h .key;
             within = omega (arith, key-inside);
-            all = omega (arith, h .all, ap length all-rows);
+            all = omega (arith, h .all, ap length first-others);
             fits = rw (first .1, kept) (omega (arith, h .fits, first .0));
           }
 
@@ -163,7 +163,7 @@ module _ {slices values : List ℕ} {present : List Bool} {k count lowest at roo
       key-end others =
           let fits : at + length (keyPart slices present values k) ≤ length buffer
           = omega (arith, h .fits, h .all, numbers-length (rowsOf present values (sliceIn slices) k)) in
-          rw all-rows (last-joined (both-fit (numbers (rowShown slices values k lowest ∷ [])) _ (rw all-rows at fits)) first others)
+          rw first-others (last-joined (both-fit (numbers (rowShown slices values k lowest ∷ [])) _ (rw first-others at fits)) first others)
 
 -- the rows of all keys
 module _ (slices : List ℕ) (present : List Bool) (values : List ℕ) where
