@@ -33,17 +33,11 @@ restOf w = does w LookUp ∷ does w Read ∷ does w Write ∷ does w Index ∷ d
 abbrev whole : ℕ → Operation → List Step
 whole w op = does w (Start op) ∷ restOf w
 
--- two puts of two keys in one group, both read before the first commits; then the second's check
-abbrev p5 : List Step
-p5 =
-    does 0 (Start (Put 0 10 0)) ∷ does 1 (Start (Put 1 11 0)) ∷ does 0 LookUp ∷ does 1 LookUp ∷ does 0 Read ∷ does 1 Read ∷ does 0 Write
-    ∷ does 0 Index ∷ does 0 Check ∷ does 0 Commit ∷ does 1 Write ∷ does 1 Index ∷ does 1 Check ∷ []
-
--- the same, where the second commits first
-abbrev p5Swapped : List Step
-p5Swapped =
-    does 0 (Start (Put 0 10 0)) ∷ does 1 (Start (Put 1 11 0)) ∷ does 0 LookUp ∷ does 1 LookUp ∷ does 0 Read ∷ does 1 Read ∷ does 1 Write
-    ∷ does 1 Index ∷ does 1 Check ∷ does 1 Commit ∷ does 0 Write ∷ does 0 Index ∷ does 0 Check ∷ []
+-- writers 0 and 1 put two keys in one group, and both read before `first` commits; then the check of `second`
+abbrev p5 : ℕ → ℕ → List Step
+p5 first second =
+    does 0 (Start (Put 0 10 0)) ∷ does 1 (Start (Put 1 11 0)) ∷ does 0 LookUp ∷ does 1 LookUp ∷ does 0 Read ∷ does 1 Read ∷ does first Write
+    ∷ does first Index ∷ does first Check ∷ does first Commit ∷ does second Write ∷ does second Index ∷ does second Check ∷ []
 
 -- two puts of one key in two groups, both looked up before the first commits; then the second's index step
 abbrev p6 : List Step
@@ -86,9 +80,9 @@ secondPut = whole 0 (Put 5 10 3) ++ whole 2 (Put 6 55 3)
 
 -- Tables that no run reaches.
 
--- what writers share, with the slice of file group g and timestamp n given one row more
-abbrev withRow : Shared → ℕ → ℕ → ℕ → ℕ → Shared
-withRow s g n k v = withValues (withPresent s (set (s .present) (rowAt g n k) true)) (set (s .values) (rowAt g n k) v)
+-- what writers share, with one row more, of key k and value v, in the slice of file group g and timestamp n
+abbrev withRow : ℕ → ℕ → ℕ → ℕ → Shared → Shared
+withRow g n k v s = withValues (withPresent s (set (s .present) (rowAt g n k) true)) (set (s .values) (rowAt g n k) v)
 
 -- what writers share, with another index entry of key k
 abbrev withEntry : Shared → ℕ → ℕ → Shared
@@ -119,12 +113,11 @@ atPhase p = withWriter (table (withInstants (inflight 0 ∷ []))) 0 (busy p 0 0 
 
 -- timestamp 1 is completed in group 0, and another writer holds it in group 1
 abbrev otherGroupsTimestamp : State
-otherGroupsTimestamp = withWriter (table (withRow (withInstants (completed 0 ∷ [])) 0 1 0 10)) 1 (busy 3 5 1 1 0)
+otherGroupsTimestamp = withWriter (table (withRow 0 1 0 10 (withInstants (completed 0 ∷ [])))) 1 (busy 3 5 1 1 0)
 
 -- the base of writer 0, in group 0, is a timestamp at which only group 1 has a slice
 abbrev otherGroupsBase : State
-otherGroupsBase =
-    withWriter (table (withIndex (withRow (withInstants (completed 1 ∷ inflight 0 ∷ [])) 1 1 5 7) (set (fresh .shared .index) 5 2))) 0 (busy 3 2 0 2 1)
+otherGroupsBase = withWriter (table (withEntry (withRow 1 1 5 7 (withInstants (completed 1 ∷ inflight 0 ∷ []))) 5 2)) 0 (busy 3 2 0 2 1)
 
 -- writers 0 and 1 hold timestamp 1, in two groups
 abbrev oneTimestamp : State
@@ -132,19 +125,16 @@ oneTimestamp = withWriter (withWriter (table (withInstants (inflight 0 ∷ [])))
 
 -- two groups show one key
 abbrev oneKeyTwice : State
-oneKeyTwice = table (withRow (withRow (withInstants (completed 1 ∷ completed 0 ∷ [])) 1 1 5 7) 0 2 5 8)
+oneKeyTwice = table (withRow 1 1 5 7 (withRow 0 2 5 8 (withInstants (completed 1 ∷ completed 0 ∷ []))))
 
 -- in group 0 the slice of timestamp 1 has keys 0 and 2, and a value under key 1, which is absent; at timestamp 2 rows stand in groups 0 and 1;
 -- writer 0 removes key 2 in group 0 with a value in its record, writer 1 puts key 1 in group 1 with base 0
 abbrev staleRows : State
 staleRows =
-    withWriter
-    (withWriter
-    (table
-    (withRow (withRow (withRow (withRow (withValues (withInstants (completed 0 ∷ inflight 0 ∷ [])) (set (fresh .shared .values) 1 11)) 0 1 0 10) 0 1 2 12)
-    0 2 1 13) 1 2 0 14))
-    0 (record { phase = 3; put = false; key = 2; group = 0; ts = 2; base = 1; value = 7 }))
-    1 (busy 3 1 1 2 0)
+    let values = set (fresh .shared .values) (rowAt 0 1 1) 11 in
+    let shared = withRow 0 1 0 10 (withRow 0 1 2 12 (withRow 0 2 1 13 (withRow 1 2 0 14 (withValues (withInstants (completed 0 ∷ inflight 0 ∷ [])) values)))) in
+    let remover : Writer = record { phase = 3; put = false; key = 2; group = 0; ts = 2; base = 1; value = 7 } in
+    withWriter (withWriter (table shared) 0 remover) 1 (busy 3 1 1 2 0)
 
 -- all timestamps are issued, writer 5 holds the lock, writer 1 is at phase 1, and writer 2 at phase 4 with a key of another group
 abbrev refusing : State
@@ -159,7 +149,7 @@ holding x = withWriter (table (withEntry (withLock (withInstants (completed 0 �
 abbrev largest : ℕ → State
 largest n =
     record {
-      shared = withRow (withIndex (withLock (withInstants (replicate n (completed 7))) 8) (replicate 32 8)) 7 1 0 10;
+      shared = withRow 7 1 0 10 (withIndex (withLock (withInstants (replicate n (completed 7))) 8) (replicate 32 8));
       writers = replicate 8 (busy 6 31 7 n n);
     }
 
@@ -208,9 +198,9 @@ traces =
     ∷ (decode (0x80 ∷ 0x00 ∷ []) gives 21 ∷ [])
     ∷ (decode (0xFF ∷ 0xFF ∷ 0xFF ∷ 0xFF ∷ 0x10 ∷ []) gives 22 ∷ [])
     ∷ (decode (0x80 ∷ []) gives 20 ∷ [])
-    -- answers: P5 to P9, the 64th start and the 65th
-    ∷ (answers fresh p5 gives 0 ∷ 0 ∷ 0 ∷ 0 ∷ 0 ∷ 0 ∷ 0 ∷ 0 ∷ 0 ∷ 1 ∷ 0 ∷ 0 ∷ 5 ∷ [])
-    ∷ (answers fresh p5Swapped gives 0 ∷ 0 ∷ 0 ∷ 0 ∷ 0 ∷ 0 ∷ 0 ∷ 0 ∷ 0 ∷ 1 ∷ 0 ∷ 0 ∷ 5 ∷ [])
+    -- answers: P5, also with the commits swapped, to P9; the 64th start and the 65th
+    ∷ (answers fresh (p5 0 1) gives 0 ∷ 0 ∷ 0 ∷ 0 ∷ 0 ∷ 0 ∷ 0 ∷ 0 ∷ 0 ∷ 1 ∷ 0 ∷ 0 ∷ 5 ∷ [])
+    ∷ (answers fresh (p5 1 0) gives 0 ∷ 0 ∷ 0 ∷ 0 ∷ 0 ∷ 0 ∷ 0 ∷ 0 ∷ 0 ∷ 1 ∷ 0 ∷ 0 ∷ 5 ∷ [])
     ∷ (answers fresh p6 gives 0 ∷ 0 ∷ 0 ∷ 0 ∷ 0 ∷ 0 ∷ 0 ∷ 0 ∷ 1 ∷ 0 ∷ 0 ∷ 4 ∷ [])
     ∷ (answers fresh p7 gives 0 ∷ 0 ∷ 0 ∷ 0 ∷ 0 ∷ 0 ∷ 0 ∷ 0 ∷ 1 ∷ 0 ∷ 0 ∷ 0 ∷ 0 ∷ 0 ∷ 1 ∷ 0 ∷ 3 ∷ [])
     ∷ (answers fresh p8 gives 0 ∷ 2 ∷ [])
@@ -228,7 +218,7 @@ traces =
     ∷ (read fresh p10 100 1 gives 0 ∷ 1 ∷ 10 ∷ 1 ∷ [])
     ∷ (read fresh p10 4 3 gives 0 ∷ 0 ∷ [])
     -- histories: operations that ended with 5, 4, 3 and 2 and by an abort are not in progress; one in progress; the group is the table's
-    ∷ (history p5 gives 2 ∷ idle 8 ++ committedAt 1 0 (Put 0 10 0))
+    ∷ (history (p5 0 1) gives 2 ∷ idle 8 ++ committedAt 1 0 (Put 0 10 0))
     ∷ (history p6 gives 2 ∷ idle 8 ++ committedAt 1 0 (Put 1 10 0))
     ∷ (history p7 gives 3 ∷ idle 8 ++ committedAt 3 0 (Put 0 12 0) ++ committedAt 1 0 (Put 0 10 0))
     ∷ (history p8 gives 1 ∷ idle 8)
@@ -242,10 +232,10 @@ traces =
     ∷ (stored (take 10 secondPut) 2 5 gives 0 ∷ [])
     ∷ (stored (take 11 secondPut) 2 5 gives 1 ∷ 10 ∷ [])
     ∷ (stored secondPut 2 6 gives 1 ∷ 55 ∷ [])
-    ∷ (stored p5 2 1 gives 1 ∷ 11 ∷ [])
-    ∷ (stored p5 2 0 gives 0 ∷ [])
+    ∷ (stored (p5 0 1) 2 1 gives 1 ∷ 11 ∷ [])
+    ∷ (stored (p5 0 1) 2 0 gives 0 ∷ [])
     -- instants: none at 0 and above the last; inflight after an ending with 5 and 4, requested after one with 3 and 2; as they are after an abort
-    ∷ (instants fresh p5 (1 ∷ 2 ∷ []) gives isCompleted 0 ++ isInflight 0)
+    ∷ (instants fresh (p5 0 1) (1 ∷ 2 ∷ []) gives isCompleted 0 ++ isInflight 0)
     ∷ (instants fresh p6 (1 ∷ 2 ∷ []) gives isCompleted 0 ++ isInflight 1)
     ∷ (instants fresh p7 (0 ∷ 1 ∷ 2 ∷ 3 ∷ 4 ∷ 18446744073709551615 ∷ [])
     gives isNone ++ isCompleted 0 ++ isRequested ++ isCompleted 0 ++ isNone ++ isNone)
@@ -267,13 +257,15 @@ traces =
     ∷ (stands (withWriter (table (withInstants (inflight 0 ∷ []))) 0 (removing 4 6 0 1 0)) (does 0 Index ∷ []) 0 6
     gives 1 ∷ 1 ∷ 0 ∷ writerNumbers (removing 5 6 0 1 0))
     -- after an ending the writer is ready: 5, 4, 3 and 2; it frees its own lock and no other's
-    ∷ (stands fresh p5 1 1 gives 2 ∷ 0 ∷ 1 ∷ zeros)
+    ∷ (stands fresh (p5 0 1) 1 1 gives 2 ∷ 0 ∷ 1 ∷ zeros)
     ∷ (stands fresh p6 1 1 gives 2 ∷ 0 ∷ 1 ∷ zeros)
     ∷ (stands fresh p7 1 0 gives 3 ∷ 0 ∷ 1 ∷ zeros)
     ∷ (stands fresh p8 0 0 gives 1 ∷ 0 ∷ 0 ∷ zeros)
     ∷ (stands (holding (busy 3 6 0 2 0)) (does 0 Abort ∷ []) 0 6 gives 2 ∷ 6 ∷ 0 ∷ zeros)
     ∷ (stands (holding (busy 5 6 0 1 0)) (does 0 Check ∷ []) 0 6 gives 2 ∷ 6 ∷ 0 ∷ zeros)
     ∷ (stands (holding (busy 6 6 0 2 2)) (does 0 Commit ∷ []) 0 6 gives 2 ∷ 6 ∷ 0 ∷ zeros)
+    -- a start takes nothing over from the record of a ready writer
+    ∷ (stands (holding (busy 0 6 1 2 2)) (does 0 (Start (Put 5 55 3)) ∷ []) 0 5 gives 3 ∷ 6 ∷ 4 ∷ writerNumbers (busy 1 5 3 3 0))
     -- a look up leaves the base, of a key that is indexed or not; a read at the writer's own timestamp is not too late; a check at the base is no change
     ∷ (stands (holding (busy 1 6 0 1 2)) (does 0 LookUp ∷ []) 0 6 gives 2 ∷ 6 ∷ 0 ∷ writerNumbers (busy 2 6 0 1 2))
     ∷ (stands (holding (busy 1 5 0 1 2)) (does 0 LookUp ∷ []) 0 5 gives 2 ∷ 6 ∷ 4 ∷ writerNumbers (busy 2 5 3 1 2))
