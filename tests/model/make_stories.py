@@ -1,5 +1,6 @@
 #!/usr/bin/env python3
-"""Write what the programs stories, calls, encoding and tables have to print.
+"""Write what the programs stories, calls, encoding, tables and out_of_range
+have to print.
 
     python3 tests/model/make_stories.py CRATES
 
@@ -415,7 +416,7 @@ def encoding() -> Iterator[str]:
         yield written(f"{number} into {room}", 0, count, buffer)
 
 
-# --- The program tables ------------------------------------------------------
+# --- The programs tables and out_of_range ------------------------------------
 
 
 def inflight(group: int) -> Instant:
@@ -634,7 +635,8 @@ PROGRAMS = {
     "stories": (examples, traces),
     "calls": (calls,),
     "encoding": (encoding,),
-    "tables": (hand_set, grounds),
+    "tables": (hand_set,),
+    "out_of_range": (grounds,),
 }
 
 

@@ -8,7 +8,8 @@ use Rattle.speed.proofs.pass.Statement.{statement}
 use Rattle.speed.proofs.pass.Tie as tie
 
 abbrev Inv-loop : tie.InvT-loop
-Inv-loop log present₀ values₀ printed answers₀ rows₀ t₀ at₀ present values answers rows t at = (at ≤ length log) × (length answers ≡ 7) × (length rows ≡ 3 * keys)
+Inv-loop log present₀ values₀ printed answers₀ rows₀ t₀ at₀ present values answers rows t at =
+    (at ≤ length log) × (length answers ≡ 7) × (length rows ≡ 3 * keys)
 
 abbrev μ-loop : tie.MeasureT-loop
 μ-loop log present₀ values₀ printed answers₀ rows₀ t₀ at₀ present values answers rows t at = length log - at

@@ -1,8 +1,4 @@
 // Answer 17, ground by ground: a table with every number at its largest, then with one number out of range.
-use crate::set::bare;
-use crate::set::putting;
-use crate::set::set_rows;
-use crate::set::story;
 use model::Table;
 use model::Value;
 use model::Writer;
@@ -14,6 +10,7 @@ use model::limits::ROWS;
 use model::limits::TIMESTAMPS;
 use model::limits::WRITERS;
 use scripts::instant;
+use scripts::play;
 use scripts::point_read;
 use scripts::run_printed;
 use scripts::scan_into;
@@ -31,9 +28,17 @@ const ENTRY: u8 = GROUPS as u8;
 
 const INSTANT: u8 = COMPLETED + GROUP;
 
-// The writer numbers of an operation with the last key and group.
+// A writer with a put of the largest value.
 fn writer(phase: u8, key: u8, group: u8, ts: u8, base: u8) -> Writer {
-    putting(phase, key, u32::MAX, group, ts, base)
+    Writer {
+        phase,
+        put: true,
+        key,
+        group,
+        ts,
+        base,
+        value: u32::MAX,
+    }
 }
 
 // A table with the largest numbers but for these: the last timestamp, the lock, the last key's entry, the instant of timestamp 64, the last
@@ -42,9 +47,9 @@ fn table_of(last: u8, lock: u8, entry: u8, instant: u8, writer: Writer, others: 
     let mut index = [ENTRY; KEYS];
     let mut timeline = [INSTANT; TIMESTAMPS];
     let mut writers = [others; WRITERS];
-    index[31] = entry;
-    timeline[63] = instant;
-    writers[7] = writer;
+    index[KEYS - 1] = entry;
+    timeline[TIMESTAMPS - 1] = instant;
+    writers[WRITERS - 1] = writer;
     Table {
         last,
         lock,
@@ -54,13 +59,14 @@ fn table_of(last: u8, lock: u8, entry: u8, instant: u8, writer: Writer, others: 
     }
 }
 
-// A step by writer 8, as a log and by `advance`, a point read of key 32, a scan with room and one without, and the instant call. In range they
-// give 10, 10, 12, a row, 31 and the instant.
+// On a table whose last row of all is present, that of the last key, file group and timestamp: a step by writer 8, as a log and by `advance`,
+// a point read of key 32, a scan with room and one without, and the instant call. In range they give 10, 10, 12, the row, 31 and the instant.
 fn tried(title: &[u8], t: Table) {
     let mut present = [false; ROWS];
     let mut values: [Value; ROWS] = [0; ROWS];
     let step = b"\x08\x03";
-    set_rows(&mut present, &mut values, &[7, 64, 31, u32::MAX]);
+    present[ROWS - 1] = true;
+    values[ROWS - 1] = u32::MAX;
     report::title(title);
     run_printed(
         t,
@@ -86,7 +92,7 @@ fn tried(title: &[u8], t: Table) {
     instant(t, 64);
 }
 
-pub fn of_the_table() {
+fn of_the_table() {
     let x = writer(6, KEY, GROUP, LAST, LAST);
     let y = writer(6, KEY, GROUP, LAST - 1, LAST - 1);
     tried(b"17: no ground", table_of(LAST, LOCK, ENTRY, INSTANT, x, x));
@@ -121,7 +127,7 @@ fn with_writer(x: Writer) -> Table {
     )
 }
 
-pub fn of_a_writer() {
+fn of_a_writer() {
     tried(b"17: phase", with_writer(writer(7, KEY, GROUP, LAST, LAST)));
     tried(
         b"17: key",
@@ -150,14 +156,17 @@ pub fn of_a_writer() {
 }
 
 // A last timestamp that is too large: every step is refused and changes nothing. With the last timestamp 0 again it is a fresh table.
-pub fn back_in_range() {
+fn back_in_range() {
+    let log = b"\x00\x01\x01\x0a\x01\x00\x03";
+    let script = b"a put:\x00\x01\x01\x0a\x01\x00\x03\x00\x04\x00\x05\x00\x06\x00\x07\x00\x08;";
     let mut present = [false; ROWS];
     let mut values: [Value; ROWS] = [0; ROWS];
     let mut places = [99u8; 4];
-    let log = b"\x00\x01\x01\x0a\x01\x00\x03";
+    let mut t = table::fresh(&mut present, &mut values);
+    t.last = LAST + 1;
     report::title(b"Out of range");
     let ran = run_printed(
-        bare(LAST + 1),
+        t,
         &mut present,
         &mut values,
         b"run:",
@@ -166,9 +175,15 @@ pub fn back_in_range() {
         false,
     );
     report::answers(b"all places:", &places, 4);
-    let mut t = ran.table;
+    t = ran.table;
     report::answers(b"last timestamp:", &[t.last], 1);
     t.last = 0;
-    let script = b"a put:\x00\x01\x01\x0a\x01\x00\x03\x00\x04\x00\x05\x00\x06\x00\x07\x00\x08;";
-    story(b"Back in range", t, &[], script, 1, 1);
+    report::title(b"Back in range");
+    play(t, &present, &values, script, 1, 1);
+}
+
+fn main() {
+    of_the_table();
+    of_a_writer();
+    back_in_range();
 }
