@@ -32,7 +32,8 @@ loop-less c =
     let turn = c .before .before .before .before in
     let bytes = turn .before .before .before .shared-slice-known .given in
     let read = sym (decoded-one-to-one _ _ (turn .decode .ensures)) ∙ c .before .before .value .given .1 in
-    omega (arith, turn .before .loop-test .taken, encoded-decoded _ _ _ _ (λ i. bytes i .fits) read .behind, size-within (c .before .before .value .given .0 .0))
+    let code = encoded-decoded _ _ _ _ (λ i. bytes i .fits) read in
+    omega (arith, turn .before .loop-test .taken, code .behind, size-within (c .before .before .value .given .0 .0))
 
 loop-again : tie.Need-loop-again Inv-loop μ-loop
 loop-again c = tt
