@@ -5,7 +5,6 @@ mod steps;
 
 pub use calls::instant;
 pub use calls::point_read;
-pub use calls::scan;
 pub use calls::scan_into;
 pub use script::play;
 pub use script::run_printed;

@@ -1,17 +1,15 @@
 // Tables and rows, set by hand.
-ghost use Prim.Native.Nat.{_<_, _≤_};
-ghost use Rattle.model.specs.Limits.{keys, groups, timestamps, rows};
 use common::Word;
 use model::Table;
 use model::Value;
 use model::Writer;
 use model::instants::NONE;
-use model::limits::GROUPS;
 use model::limits::KEYS;
 use model::limits::ROWS;
 use model::limits::TIMESTAMPS;
 use model::limits::WRITERS;
 use scripts::play;
+use slices::row_place;
 
 // A writer with a put.
 pub fn putting(phase: u8, key: u8, value: Value, group: u8, ts: u8, base: u8) -> Writer {
@@ -46,14 +44,6 @@ pub fn bare(last: u8) -> Table {
     }
 }
 
-// Where the row of a key stands in the slice of a file group and a timestamp.
-fn row_place(group: usize, ts: usize, key: usize) -> usize
-    requires { ⌜ (group < groups) × ((0 < ts) × (ts ≤ timestamps)) × (key < keys) ⌝ }
-    ensures { λ r. ⌜ r < rows ⌝ }
-{
-    ((ts - 1) * GROUPS + group) * KEYS + key
-}
-
 // A row of the slice of a file group and a timestamp.
 fn set_row(
     present: &mut [bool; ROWS],
@@ -63,8 +53,8 @@ fn set_row(
     key: Word,
     value: Value,
 ) {
-    if group < GROUPS as Word && 0 < ts && ts <= TIMESTAMPS as Word && key < KEYS as Word {
-        let row = row_place(group as usize, ts as usize, key as usize);
+    let row = row_place(group as usize, ts as usize, key as usize);
+    if row < ROWS {
         present[row] = true;
         values[row] = value;
     }

@@ -4,14 +4,12 @@ use mathlib.Core.Bool.{false, cond}
 use mathlib.Core.List.{List, [], _∷_, _++_, map, foldl}
 use mathlib.Core.Option.{Option, none, some}
 use lib.ListN.{getD, replicate}
-use Rattle.leb128.specs.Coding.{encoded, decodedAt}
-use Rattle.leb128.specs.declared.Decoded.{Decoded}
-use Rattle.leb128.specs.declared.Decoded.the-variants.{Number, Stop}
+use Rattle.leb128.specs.Coding.{encoded, decodedAt, decodedNumbers}
 use Rattle.common.specs.Counting.{listBelow}
 use Rattle.model.specs.State.{Shared, State, rowAt}
 use Rattle.model.specs.Rules.{entryOf, writerOf, step}
 use Rattle.model.specs.Machine.{answersFrom, commitMachine}
-use Rattle.model.specs.Snapshot.{Listed, scan, pointRead, instantAt}
+use Rattle.model.specs.Snapshot.{Listed, scan, pointRead, foundNumbers, instantAt, instantNumbers}
 use Rattle.model.specs.History.{Pending, Committed, History}
 use Rattle.model.specs.Isolation.{after}
 use Rattle.model.specs.declared.Writer.{Writer}
@@ -20,10 +18,6 @@ use Rattle.model.specs.declared.Operation.the-variants.{Put, Remove}
 use Rattle.model.specs.declared.Action.{Action}
 use Rattle.model.specs.declared.Action.the-variants.{Start, LookUp, Read, Write, Index, Check, Commit, Abort}
 use Rattle.model.specs.declared.Step.{Step}
-use Rattle.model.specs.declared.Found.{Found}
-use Rattle.model.specs.declared.Found.the-variants as found
-use Rattle.model.specs.declared.InstantState.{InstantState}
-use Rattle.model.specs.declared.InstantState.the-variants as instant
 
 pub data Case : Type 0 where
   encode : ℕ → Case  -- a number
@@ -40,29 +34,11 @@ pub data Case : Type 0 where
   stored : List Step → ℕ → ℕ → Case  -- what the write steps among steps on a fresh table stored under a timestamp, of a key
   judged : State → Case  -- a step of writer 8, a read of key 32, a scan with too little room, and the instant of timestamp 1
 
--- a number and the place behind it, or the stop alone
-abbrev pub decodedNumbers : Decoded → List ℕ
-decodedNumbers (Number value next) = value ∷ next ∷ []
-decodedNumbers (Stop stop) = stop ∷ []
-
 -- the answer of a scan, its row count and the lent numbers
 abbrev pub listedNumbers : Listed → List ℕ
 listedNumbers l = l .answer ∷ l .count ∷ l .buffer
 
--- the answer of a point read; where it is 0, the number of rows; where that is 1, the row's value and file group
-abbrev pub foundNumbers : Found → List ℕ
-foundNumbers (found.Refused n) = n ∷ []
-foundNumbers found.Absent = 0 ∷ 0 ∷ []
-foundNumbers (found.Present v g) = 0 ∷ 1 ∷ v ∷ g ∷ []
-
--- the answer of the instant call; where it is 0, the state, 0 to 3 as listed here, and from inflight on the file group
-abbrev pub instantNumbers : InstantState → List ℕ
-instantNumbers (instant.Refused n) = n ∷ []
-instantNumbers instant.None = 0 ∷ 0 ∷ []
-instantNumbers instant.Requested = 0 ∷ 1 ∷ []
-instantNumbers (instant.Inflight g) = 0 ∷ 2 ∷ g ∷ []
-instantNumbers (instant.Completed g) = 0 ∷ 3 ∷ g ∷ []
-
+-- the instants of some timestamps
 abbrev pub instantsNumbers : State → List ℕ → List ℕ
 instantsNumbers st [] = []
 instantsNumbers st (t ∷ ts) = instantNumbers (instantAt st t) ++ instantsNumbers st ts

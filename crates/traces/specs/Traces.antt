@@ -5,7 +5,7 @@ use mathlib.Core.Path.{_≡_, refl}
 use mathlib.Core.Bool.{true, false}
 use mathlib.Core.List.{List, [], _∷_, _++_, map}
 use lib.ListN.{length, replicate, set, take}
-use Rattle.leb128.specs.Coding.{encodedIn, encoded, decodedIn, decodedAt}
+use Rattle.leb128.specs.Coding.{encodedIn, encoded, decodedIn, decodedAt, decodedNumbers}
 use Rattle.common.specs.Counting.{upd, eachBelow, listBelow}
 use Rattle.model.specs.State.{Shared, State, ready, fresh, requested, inflight, completed, newest, rowAt, cell}
 use Rattle.model.specs.State.{withLast, withLock, withIndex, withTimeline, withPresent, withValues}
@@ -343,7 +343,7 @@ traces =
     ∷ []
 
 pub traces-hold : map (λ (t : Trace). outcome (t .case)) traces ≡ map (λ (t : Trace). t .stated) traces
-unfolding traces outcome encoded encodedIn decodedAt decodedIn answersFrom executed next step stepTested ruled act
+unfolding traces outcome encoded encodedIn decodedAt decodedIn decodedNumbers answersFrom executed next step stepTested ruled act
     start lookUp readBase writeSlice enterIndex checkConflict commit abort inRange eachBelow writersInRange indexInRange instantsInRange noneAbove
     newest cell copied sliced fresh scan rowsAt numbers listBelow pointRead instantState instantAt
     upd empty startRecorded commitRecorded endRecorded recorded storedBy
