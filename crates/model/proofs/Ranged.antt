@@ -1,7 +1,6 @@
 -- The test of answer 17 as facts about numbers.
---     writer-ranged    a writer that passes the test has its numbers in range
---     ranged           so has a state
---     in-range         and the other way
+--     writer-ranged, writer-in-range    a writer passes the test exactly if its numbers are in range
+--     ranged, in-range                  and so does a state
 use Prim.Native.Nat.{ℕ, _<_, _≤_}
 use native.Mathlib.Omega.{arith}
 use mathlib.Core.Bool.{true}
@@ -44,7 +43,7 @@ module _ (last : ℕ) where
       let (key, (group, (phase, (ts, (base, issued))))) = simp facts at e in
       record { key = key; group = group; phase = phase; ts = ts; base = base; issued = λ p. issued (λ z. omega (arith, z)) }
 
-  writer-in-range : (x : Writer) → WriterRanged last x → writerInRange last x ≡ true
+  pub writer-in-range : (x : Writer) → WriterRanged last x → writerInRange last x ≡ true
   writer-in-range x r = simp facts (r .key, (r .group, (r .phase, (r .ts, (r .base, λ p. r .issued (omega (arith, p)))))))
 
 module _ (st : State) where

@@ -1,27 +1,23 @@
 -- `parts-step`: on the parts of a table, with the result of its range test, `actOnParts` is a step of the table.
 use Prim.Native.Nat.{ℕ, _<_}
-use mathlib.Core.Bool.{Bool, true, false, and-eq-true-iff}
+use mathlib.Core.Bool.{Bool, true, false}
 use mathlib.Core.Path.{_≡_, refl, ap}
 use lib.ListN.{getD}
 use lib.Seq.{set-getD}
 use lib.Dec.{leb}
-use borrow.Author.Tests.{leb-false, lt-ltb}
+use borrow.Author.Tests.{le-leb, leb-false, lt-ltb}
 use Rattle.model.specs.Limits.{writers}
 use Rattle.model.specs.State.{State, ready}
-use Rattle.model.specs.Range.{writerInRange, writersInRange, inRange}
+use Rattle.model.specs.Range.{inRange}
 use Rattle.model.specs.Rules.{outcome, Answered, answered, updated, stepTested, step}
 use Rattle.model.specs.declared.Step.{Step}
-use Rattle.common.proofs.EachBelow.{below-iff}
+use Rattle.model.proofs.Ranged.{ranged, writer-in-range}
 use Rattle.rules.specs.Parts.{slotOf, actOnParts}
 use Rattle.metadata.specs.Actor.{actorInRange}
 
 -- in a state in range, each of its writers is an actor in range
 actor : (st : State) (w : ℕ) → inRange st ≡ true → w < writers → actorInRange (st .shared .last) (getD (st .writers) w ready) ≡ true
-unfolding inRange writersInRange
-actor st w e l =
-    let (last, (lock, (own, others))) = simp and-eq-true-iff at e in
-    let x : writerInRange (st .shared .last) (getD (st .writers) w ready) ≡ true = below-iff writers _ .0 own w l in
-    rw (last, x)
+actor st w e l = let r = ranged st e in rw (le-leb _ _ (r .shared .last), writer-in-range _ _ (r .writer w l))
 
 -- a record stored where it stands changes nothing
 same : (st : State) (w n : ℕ) → updated st w (outcome n (getD (st .writers) w ready) (st .shared)) ≡ answered n st
