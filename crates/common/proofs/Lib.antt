@@ -3,7 +3,7 @@ pub mod Cases
 pub mod Functions
 pub mod EachBelow
 pub mod ListBelow
-pub mod Lists
+pub mod Loops
 pub mod Pasting
 pub mod Pieces
 pub mod PastedParts

@@ -1,13 +1,18 @@
--- Lists over the numbers below n: `same-below` for two that agree, `none-below` and `one-below` for those that are empty but at one place,
--- `length-below` for those of at most m elements at each place.
-use Prim.Native.Nat.{ℕ, zero, suc, _*_, _≤_, _<_}
-use mathlib.Core.Path.{_≡_, refl}
+-- Lists over the numbers below n.
+--     same-below, none-below, one-below    two that agree, and one that is empty, at all places or but for one
+--     length-below                         one with at most m elements at each place
+--     list-more, length-more               one number more
+--     list-rest, list-whole                the part below n, and where that is all
+--     sum-length                           the length as a sum
+use Prim.Native.Nat.{ℕ, zero, suc, _+_, _-_, _*_, _≤_, _<_}
+use mathlib.Core.Path.{_≡_, refl, sym, _∙_, ap}
 use mathlib.Core.Logic.{_≢_, by-cases}
-use mathlib.Core.List.{List, [], append-nil}
+use mathlib.Core.List.{List, [], _∷_, _++_, append-nil, append-assoc}
 use native.Mathlib.Decide.{ℕ-discrete}
+use native.Mathlib.Numerals.{add-one}
 use native.Mathlib.Omega.{arith}
 use lib.ListN.{length, length-append}
-use Rattle.common.specs.Counting.{listBelow}
+use Rattle.common.specs.Counting.{listBelow, sum}
 
 module _ {A : Type 0} where
   pub same-below : (n : ℕ) (f g : ℕ → List A) → ((i : ℕ) → i < n → f i ≡ g i) → listBelow n f ≡ listBelow n g
@@ -31,3 +36,41 @@ module _ {A : Type 0} where
   unfolding listBelow
   length-below m zero f h = omega arith
   length-below m (suc n) f h = rw length-append (omega (arith, length-below m n f h, h n))
+
+pub no-length : {A : Type 0} (l : List A) → length l ≡ 0 → l ≡ []
+no-length [] e = refl
+no-length (x ∷ xs) e = absurd (omega arith)
+
+module _ {A : Type 0} where
+  pub list-more : (n : ℕ) (f : ℕ → List A) → listBelow (n + 1) f ≡ listBelow n f ++ f n
+  unfolding listBelow
+  list-more n f = rw add-one
+
+  pub length-more : (n : ℕ) (f : ℕ → List A) → length (listBelow (n + 1) f) ≡ length (listBelow n f) + length (f n)
+  length-more n f = ap length (list-more n f) ∙ length-append (listBelow n f) (f n)
+
+  -- the part below n, and what comes behind
+  list-split : (m n : ℕ) (f : ℕ → List A) → listBelow (n + m) f ≡ listBelow n f ++ listBelow m (λ i. f (n + i))
+  unfolding listBelow
+  list-split zero n f = let e : n + 0 ≡ n = omega arith in rw e (sym (append-nil (listBelow n f)))
+  list-split (suc m) n f =
+      let e : n + suc m ≡ suc (n + m) = omega arith in
+      rw (e, list-split m n f) (append-assoc (listBelow n f) (listBelow m (λ i. f (n + i))) (f (n + m)))
+
+  module _ (n all : ℕ) (f : ℕ → List A) (h : n ≤ all) where
+    abbrev rest : List A
+    rest = listBelow (all - n) (λ i. f (n + i))
+
+    pub list-rest : listBelow all f ≡ listBelow n f ++ rest
+    list-rest = let e : n + (all - n) ≡ all = omega arith in rw e at (list-split (all - n) n f)
+
+    pub list-whole : length (listBelow n f) ≡ length (listBelow all f) → listBelow n f ≡ listBelow all f
+    list-whole e =
+        let l = ap length list-rest ∙ length-append (listBelow n f) rest in
+        sym (list-rest ∙ rw (no-length rest (omega arith)) (append-nil (listBelow n f)))
+
+  pub sum-length : (n : ℕ) (f : ℕ → List A) (c : ℕ → ℕ) → ((i : ℕ) → i < n → c i ≡ length (f i)) → sum n c ≡ length (listBelow n f)
+  unfolding listBelow sum
+  sum-length zero f c h = refl
+  sum-length (suc n) f c h =
+      rw (sum-length n f c (λ i l. h i (omega arith)), h n (omega arith)) (sym (length-append (listBelow n f) (f n)))

@@ -14,9 +14,9 @@ use native.Mathlib.Omega.{arith}
 use lib.ListN.{length, length-append}
 use Rattle.common.specs.Counting.{listBelow}
 use Rattle.common.specs.Pasting.{PastedTo}
-use Rattle.common.proofs.Lists.{list-rest, list-whole}
+use Rattle.common.proofs.ListBelow.{list-rest, list-whole}
 use Rattle.common.proofs.Pasting.{pasted-none, pasted-length}
-use Rattle.common.proofs.Pieces.{Fits, first-fits, rest-fits, none-pasted, both-fit, last-joined}
+use Rattle.common.proofs.Pieces.{Fits, first-fits, rest-fits, none-pasted, both-fit, both-pasted}
 
 -- the parts below i are put, and those below count have room; where there are none the place may lie anywhere
 pub record Putting {A : Type 0} (part : ℕ → List A) (count : ℕ) (text₀ : List A) (at₀ : ℕ) (text : List A) (at i : ℕ) : Type 0 where
@@ -57,7 +57,7 @@ module _ {A : Type 0} {part : ℕ → List A} {count : ℕ} {text₀ : List A} {
 
     pub goes-on : {next : ℕ} {after : List A} → PastedTo text at (part i) next after → Putting part count text₀ at₀ after next (i + 1)
     unfolding listBelow
-    goes-on piece = rw add-one (record { upto = h; room = now .room; put = last-joined next-parts (now .put) piece })
+    goes-on piece = rw add-one (record { upto = h; room = now .room; put = both-pasted next-parts (now .put) piece })
 
   pub ends : count ≤ i → PastedTo text₀ at₀ (listBelow count part) at text
   ends h = let all : count ≡ i = omega (arith, now .upto) in rw all (now .put)

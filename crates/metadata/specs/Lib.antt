@@ -1,3 +1,3 @@
 pub mod Actor
-pub mod Largest
 pub mod Parts
+pub mod Inner

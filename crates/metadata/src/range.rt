@@ -7,7 +7,7 @@ ghost use lib.ListN.{drop};
 ghost use Rattle.model.specs.State.{State, stateOf};
 ghost use Rattle.model.specs.Range.{writerInRange, writersInRange, inRange};
 ghost use Rattle.metadata.specs.Actor.{actorInRange};
-ghost use Rattle.metadata.specs.Largest.{largest};
+ghost use Rattle.metadata.specs.Inner.{largest};
 ghost use Rattle.metadata.specs.Parts.{withParts};
 use model::Table;
 use model::Writer;
@@ -15,6 +15,7 @@ use model::instants::COMPLETED;
 use model::instants::NONE;
 use model::limits::GROUPS;
 use model::limits::KEYS;
+use model::limits::LAST_PHASE;
 use model::limits::TIMESTAMPS;
 use model::limits::WRITERS;
 
@@ -27,7 +28,7 @@ fn writer_in_range(x: Writer, last: u8) -> bool
     if x.group >= GROUPS as u8 {
         return false;
     }
-    if 6 < x.phase {
+    if LAST_PHASE < x.phase {
         return false;
     }
     if last < x.ts {

@@ -27,7 +27,7 @@ use Rattle.model.specs.declared.Step.{Step}
 use Rattle.common.proofs.Cases.{cond-iff, facts as tests}
 use Rattle.model.proofs.CommittedAt.{committedAt-mem}
 use Rattle.model.proofs.Executed.{executed-keeps, executed-append}
-use Rattle.model.proofs.RangeKept.{ranged}
+use Rattle.model.proofs.Ranged.{ranged}
 use Rattle.model.proofs.Moves.{View, Move, stays, starts, continues, ends, commits}
 use Rattle.model.proofs.Invariant.{Invariant, committed-completed}
 use Rattle.model.proofs.InvariantKept.{move-keeps}

@@ -19,7 +19,7 @@ use Rattle.model.specs.Isolation.{next, after}
 use Rattle.model.specs.declared.Writer.{Writer}
 use Rattle.model.specs.declared.Step.{Step}
 use Rattle.common.proofs.Cases.{cond-iff, facts, set-ind}
-pub use Rattle.model.proofs.Ranged.{WriterRanged, Ranged, ranged, in-range}
+use Rattle.model.proofs.Ranged.{WriterRanged, Ranged, ranged, in-range}
 use Rattle.model.proofs.Executed.{executed-keeps}
 use Rattle.model.proofs.Actions.{OutcomeRanged, act-sound}
 

@@ -25,7 +25,8 @@ use Rattle.common.proofs.Cases.{cond-iff, facts}
 use Rattle.common.proofs.Functions.{upd-same, upd-id, getD-upd}
 use Rattle.model.proofs.CompletedInstants.{groupCompleted, completedAt, completed-group, requested-group, inflight-group}
 use Rattle.model.proofs.CompletedInstants.{instant-next, instant-set, completed-upd, newest-of, group-given}
-use Rattle.model.proofs.RangeKept.{WriterRanged, ranged, step-in-range}
+use Rattle.model.proofs.Ranged.{WriterRanged, ranged}
+use Rattle.model.proofs.RangeKept.{step-in-range}
 use Rattle.model.proofs.Outcomes.{Ruling, isRefused, isEnded, rules}
 use Rattle.model.proofs.Outcomes.{hasStarted, hasFound, hasProposed, hasRead, hasWritten, hasEntered, hasChecked, hasCommitted}
 use Rattle.model.proofs.Slices.{stored-own, cell-sliced}

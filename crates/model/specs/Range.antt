@@ -4,7 +4,7 @@ use mathlib.Core.Bool.{Bool, _||_}
 use mathlib.Core.List.{List, [], _∷_}
 use lib.ListN.{getD}
 use lib.Dec.{eqb, ltb, leb}
-use Rattle.model.specs.Limits.{writers, keys, groups, timestamps}
+use Rattle.model.specs.Limits.{writers, keys, groups, timestamps, lastPhase}
 use Rattle.common.specs.Counting.{every, eachBelow}
 use Rattle.model.specs.State.{State, ready, completed}
 use Rattle.model.specs.declared.Writer.{Writer}
@@ -12,7 +12,7 @@ use Rattle.model.specs.declared.Writer.{Writer}
 -- a writer's numbers, where `last` is the last timestamp issued; off phase 0 it has a timestamp
 abbrev pub writerTests : ℕ → Writer → List Bool
 writerTests last x =
-    ltb (x .key) keys ∷ ltb (x .group) groups ∷ leb (x .phase) 6 ∷ leb (x .ts) last ∷ leb (x .base) last ∷ (eqb (x .phase) 0 || ltb 0 (x .ts)) ∷ []
+    ltb (x .key) keys ∷ ltb (x .group) groups ∷ leb (x .phase) lastPhase ∷ leb (x .ts) last ∷ leb (x .base) last ∷ (eqb (x .phase) 0 || ltb 0 (x .ts)) ∷ []
 
 abbrev pub writerInRange : ℕ → Writer → Bool
 writerInRange last x = every (writerTests last x)

@@ -14,7 +14,7 @@ use Rattle.model.specs.Rules.{sliced}
 use Rattle.model.specs.declared.Writer.{Writer}
 use Rattle.model.proofs.Ranged.{WriterRanged, writer-ranged}
 use Rattle.metadata.specs.Actor.{actorInRange}
-use Rattle.slices.specs.Slices.{namesSlice, rowsStored}
+use Rattle.slices.specs.Slices.{namesSlice, sliceStored}
 use Rattle.rules.specs.Inner.{Bounds}
 
 started : (phase ts : ℕ) → phase ≤ 6 → (0 < phase → 0 < ts) → phase ≤ 6 * ts
@@ -35,6 +35,6 @@ module _ {x : Writer} (b : Bounds x) (writes : x .phase ≡ 3) where
   names-slice = simp facts (b .group, (b .base, (omega (arith, b .started), (b .ts, b .key))))
 
   pub slice-stored : {A : Type 0} (absent : A) (rows : List A) (v : A)
-      → rowsStored absent rows x v ≡ sliced absent rows (x .group) (x .base) (x .ts) (x .key) v
-  unfolding rowsStored
+      → sliceStored absent rows x v ≡ sliced absent rows (x .group) (x .base) (x .ts) (x .key) v
+  unfolding sliceStored
   slice-stored absent rows v = rw names-slice

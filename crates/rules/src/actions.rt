@@ -322,7 +322,7 @@ fn released(lock: u8, w: u8) -> u8
 
 // A verdict carried out for writer w. Every operation that ends or commits closes here: its writer is ready, and the lock free if the writer
 // held it.
-pub fn close(v: Verdict, x: Writer, w: u8, lock: &mut u8) -> Acted
+pub fn carry_out(v: Verdict, x: Writer, w: u8, lock: &mut u8) -> Acted
     requires { ⌜ w < writers ⌝ }
     ensures { λ r. ⌜ ((s : Shared) → CarriesOut x w v (withLock s (now (lock .entry))) r (withLock s (now (lock .exit)))) ⌝ }
 {

@@ -21,11 +21,11 @@ abbrev pub namesSlice : Writer → Bool
 namesSlice x = every (ltb (x .group) groups ∷ leb (x .base) timestamps ∷ leb 1 (x .ts) ∷ leb (x .ts) timestamps ∷ ltb (x .key) keys ∷ [])
 
 -- the rows with a writer's slice stored, v at its key (document 01, A writer's walk, 4); as they were where its numbers name no slice
-unfoldable pub rowsStored : {A : Type 0} → A → List A → Writer → A → List A
-rowsStored absent rows x v = cond (namesSlice x) (sliced absent rows (x .group) (x .base) (x .ts) (x .key) v) rows
+unfoldable pub sliceStored : {A : Type 0} → A → List A → Writer → A → List A
+sliceStored absent rows x v = cond (namesSlice x) (sliced absent rows (x .group) (x .base) (x .ts) (x .key) v) rows
 
 -- a call stores a writer's slice in both lent arrays: whether its key is present, and the value
 abbrev pub StoresSlice : Writer → Lent Bool → Lent ℕ → Type 0
 StoresSlice x present values =
-    (now (present .exit) ≡ rowsStored false (now (present .entry)) x (x .put))
-    × (now (values .exit) ≡ rowsStored 0 (now (values .entry)) x (x .value))
+    (now (present .exit) ≡ sliceStored false (now (present .entry)) x (x .put))
+    × (now (values .exit) ≡ sliceStored 0 (now (values .entry)) x (x .value))

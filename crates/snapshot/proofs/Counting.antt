@@ -13,7 +13,7 @@ use mathlib.Core.List.{List}
 use lib.ListN.{getD, length, replicate, getD-replicate}
 use borrow.Author.Tests.{ne-eqb}
 use Rattle.common.specs.Counting.{sum}
-use Rattle.common.proofs.Lists.{sum-length}
+use Rattle.common.proofs.ListBelow.{sum-length}
 use Rattle.model.specs.Limits.{keys, groups}
 use Rattle.model.specs.State.{rowAt}
 use Rattle.model.specs.Snapshot.{rowsOf, allRows}

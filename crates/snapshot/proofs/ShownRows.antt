@@ -10,7 +10,7 @@ use lib.ListN.{getD, length}
 use borrow.Author.Tests.{lt-ltb}
 use Rattle.common.specs.Counting.{listBelow, sum}
 use Rattle.common.proofs.Cases.{by-test}
-use Rattle.common.proofs.Lists.{sum-length}
+use Rattle.common.proofs.ListBelow.{sum-length}
 use Rattle.model.specs.Limits.{keys, groups}
 use Rattle.model.specs.State.{rowIn, cell}
 use Rattle.model.specs.Snapshot.{Row, row, shown, rowsOf, numbers}

@@ -19,8 +19,8 @@ use Rattle.model.specs.State.{State}
 use Rattle.model.specs.Range.{inRange}
 use Rattle.model.specs.Snapshot.{rowsOf, allRows, newestAt, rowsAt, Listed, unlisted, numbers, scan, firstOf, pointRead}
 use Rattle.model.specs.declared.Found.the-variants.{Refused}
-use Rattle.model.proofs.RangeKept.{ranged}
-use Rattle.snapshot.specs.declared.rows.Shown.{Shown}
+use Rattle.model.proofs.Ranged.{ranged}
+use Rattle.snapshot.specs.declared.rows.KeyCounts.{KeyCounts}
 use Rattle.snapshot.specs.Inner.{Coded, NewestSlices, sliceIn, Counted, AllFit}
 use Rattle.snapshot.proofs.ShownRows.{numbers-length}
 use Rattle.snapshot.proofs.Counting.{counted-all}
@@ -59,7 +59,7 @@ module _ (st : State) (t : ℕ) {slices : List ℕ} (h : NewestSlices (st .share
   unfolding pointRead
   read-found r k l = rw (r, lt-leb keys k l) (ap firstOf (key-same k))
 
-  module _ {shown : Shown} {count : ℕ} (c : Counted slices present groups (shown .counts) (shown .lowest))
+  module _ {shown : KeyCounts} {count : ℕ} (c : Counted slices present groups (shown .counts) (shown .lowest))
       (e : count ≡ sum keys (λ k. getD (shown .counts) k 0)) where
     all-counted : count ≡ length (allRows present values (sliceIn slices))
     all-counted = e ∙ counted-all slices present c values

@@ -12,15 +12,14 @@ use mathlib.Core.List.{List, [], _∷_}
 use lib.ListN.{getD, length}
 use Rattle.common.specs.Counting.{listBelow}
 use Rattle.common.specs.Pasting.{pasted, PastedTo}
-use Rattle.common.proofs.ListBelow.{none-below}
-use Rattle.common.proofs.Lists.{no-length, list-more, length-more, list-rest, list-whole}
+use Rattle.common.proofs.ListBelow.{none-below, no-length, list-more, length-more, list-rest, list-whole}
 use Rattle.common.proofs.Pasting.{pasted-length}
-use Rattle.common.proofs.Pieces.{none-pasted, both-fit, last-joined}
+use Rattle.common.proofs.Pieces.{none-pasted, both-fit, both-pasted}
 use Rattle.common.proofs.PastedParts.{Putting, starts, part-fits, goes-on, ends}
 use Rattle.model.specs.Limits.{keys, groups, timestamps}
 use Rattle.model.specs.State.{rowIn}
 use Rattle.model.specs.Snapshot.{Row, row, shown, rowsOf, allRows, numbers}
-use Rattle.snapshot.specs.declared.rows.Shown.{Shown}
+use Rattle.snapshot.specs.declared.rows.KeyCounts.{KeyCounts}
 use Rattle.snapshot.specs.Inner.{Slices, sliceIn, HasPlace, hasRow, rowsFrom, OthersFit, KeyFits, AllFit}
 use Rattle.snapshot.proofs.ShownRows.{shown-place, shown-row, shown-none, key-count, numbers-below, numbers-length}
 
@@ -163,21 +162,21 @@ module _ {slices values : List ℕ} {present : List Bool} {k count lowest at roo
       key-end others =
           let fits : at + length (keyPart slices present values k) ≤ length buffer
           = omega (arith, h .fits, h .all, numbers-length (rowsOf present values (sliceIn slices) k)) in
-          rw first-others (last-joined (both-fit (numbers (rowShown slices values k lowest ∷ [])) _ (rw first-others at fits)) first others)
+          rw first-others (both-pasted (both-fit (numbers (rowShown slices values k lowest ∷ [])) _ (rw first-others at fits)) first others)
 
 -- the rows of all keys
 module _ (slices : List ℕ) (present : List Bool) (values : List ℕ) where
   all-numbers : listBelow keys (keyPart slices present values) ≡ numbers (allRows present values (sliceIn slices))
   all-numbers = numbers-below keys (rowsOf present values (sliceIn slices))
 
-  pub all-begin : {shown : Shown} {buffer : List ℕ} → AllFit slices present values shown (length buffer)
+  pub all-begin : {shown : KeyCounts} {buffer : List ℕ} → AllFit slices present values shown (length buffer)
       → Putting (keyPart slices present values) keys buffer 0 buffer 0 0
   all-begin {buffer = buffer} h =
       starts (keyPart slices present values) keys buffer 0
       (omega (arith, h .fits, ap length all-numbers, numbers-length (allRows present values (sliceIn slices))))
 
   module _ {old new : List ℕ} {next k : ℕ} (s : Putting (keyPart slices present values) keys old 0 new next k) where
-    pub all-key : {shown : Shown} {room : ℕ} → AllFit slices present values shown room → k < keys
+    pub all-key : {shown : KeyCounts} {room : ℕ} → AllFit slices present values shown room → k < keys
         → KeyFits slices present values k (getD (shown .counts) k 0) (getD (shown .lowest) k 0) next (length new)
     all-key h l =
         let all = h .counted .count k l ∙ key-count slices present values k l in

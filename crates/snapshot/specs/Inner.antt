@@ -8,7 +8,7 @@ use Rattle.common.specs.Counting.{listBelow, sum}
 use Rattle.model.specs.Limits.{keys, groups, timestamps}
 use Rattle.model.specs.State.{completed, newest, rowIn}
 use Rattle.model.specs.Snapshot.{Row, shown, rowsOf, allRows}
-use Rattle.snapshot.specs.declared.rows.Shown.{Shown}
+use Rattle.snapshot.specs.declared.rows.KeyCounts.{KeyCounts}
 
 -- each instant of the timeline is one of the numbers that stand for an instant
 abbrev pub Coded : List ℕ → Type 0
@@ -89,7 +89,7 @@ pub record KeyFits (slices : List ℕ) (present : List Bool) (values : List ℕ)
   pub fits : at + 3 * count ≤ room
 
 -- what storing all rows asks
-pub record AllFit (slices : List ℕ) (present : List Bool) (values : List ℕ) (shown : Shown) (room : ℕ) : Type 0 where
+pub record AllFit (slices : List ℕ) (present : List Bool) (values : List ℕ) (shown : KeyCounts) (room : ℕ) : Type 0 where
   pub slice : Slices slices
   pub counted : Counted slices present groups (shown .counts) (shown .lowest)
   pub fits : 3 * length (allRows present values (sliceIn slices)) ≤ room

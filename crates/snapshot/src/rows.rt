@@ -18,7 +18,7 @@ use model::limits::KEYS;
 use model::limits::ROWS;
 
 // Of each key: how many file groups show it, and the lowest of them, or GROUPS.
-pub struct Shown {
+pub struct KeyCounts {
     pub counts: [u8; KEYS],
     pub lowest: [u8; KEYS],
 }
@@ -92,7 +92,7 @@ fn count_slice(
 }
 
 // Counts the slices of all file groups. Each turn is lent the arrays: as a struct by value they would be taken apart, byte by byte, in each.
-pub fn count_slices(slices: [u8; GROUPS], present: &[bool; ROWS]) -> Shown
+pub fn count_slices(slices: [u8; GROUPS], present: &[bool; ROWS]) -> KeyCounts
     requires { ⌜ Slices slices ⌝ }
     ensures { λ r. ⌜ Counted slices (now (present .entry)) groups (r .counts) (r .lowest) ⌝ }
 {
@@ -108,7 +108,7 @@ pub fn count_slices(slices: [u8; GROUPS], present: &[bool; ROWS]) -> Shown
             count_slice(&mut counts, &mut lowest, present, from, group as u8);
         }
     }
-    Shown { counts, lowest }
+    KeyCounts { counts, lowest }
 }
 
 // The number of all rows.
@@ -209,7 +209,7 @@ pub fn store(
     slices: [u8; GROUPS],
     present: &[bool; ROWS],
     values: &[Value; ROWS],
-    shown: Shown,
+    shown: KeyCounts,
     buffer: &mut [Word],
 )
     requires { ⌜ AllFit slices (now present) (now values) shown (length (now buffer)) ⌝ }

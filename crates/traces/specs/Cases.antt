@@ -67,29 +67,29 @@ operationNumbers (Put k v g) = 1 ∷ k ∷ v ∷ g ∷ []
 operationNumbers (Remove k) = 2 ∷ k ∷ []
 
 -- an operation in progress under a timestamp, and one committed at a timestamp in a file group
-abbrev pub inProgress : ℕ → Operation → List ℕ
-inProgress ts op = ts ∷ operationNumbers op
+abbrev pub pendingOperation : ℕ → Operation → List ℕ
+pendingOperation ts op = ts ∷ operationNumbers op
 
-abbrev pub committedAt : ℕ → ℕ → Operation → List ℕ
-committedAt ts group op = ts ∷ group ∷ operationNumbers op
+abbrev pub committedOperation : ℕ → ℕ → Operation → List ℕ
+committedOperation ts group op = ts ∷ group ∷ operationNumbers op
 
 -- what a writer has in progress, 0 for nothing
 abbrev pub pendingNumbers : Option Pending → List ℕ
 pendingNumbers none = 0 ∷ []
-pendingNumbers (some p) = inProgress (p .ts) (p .operation)
+pendingNumbers (some p) = pendingOperation (p .ts) (p .operation)
 
 -- the committed operations, the last one first
 abbrev pub committedNumbers : List Committed → List ℕ
 committedNumbers [] = []
-committedNumbers (c ∷ cs) = committedAt (c .ts) (c .group) (c .operation) ++ committedNumbers cs
+committedNumbers (c ∷ cs) = committedOperation (c .ts) (c .group) (c .operation) ++ committedNumbers cs
 
 -- a whole history: the last timestamp, what each writer has in progress, the committed operations
 abbrev pub historyNumbers : History → List ℕ
 historyNumbers h = h .last ∷ listBelow 8 (λ w. pendingNumbers (h .pending w)) ++ committedNumbers (h .done)
 
 -- a table after steps
-abbrev pub stateAfter : State → List Step → State
-stateAfter st ss = foldl (commitMachine .after) st ss
+abbrev pub afterSteps : State → List Step → State
+afterSteps st ss = foldl (commitMachine .after) st ss
 
 -- writer w does a
 abbrev pub does : ℕ → Action → Step
@@ -100,20 +100,20 @@ abbrev pub actions : List Action
 actions = Start (Put 0 10 0) ∷ LookUp ∷ Read ∷ Write ∷ Index ∷ Check ∷ Commit ∷ Abort ∷ []
 
 -- what the definitions give
-unfoldable pub outcome : Case → List ℕ
-outcome (encode n) = encoded n
-outcome (decode bytes) = decodedNumbers (decodedAt bytes 0)
-outcome (answers st ss) = answersFrom commitMachine st ss
-outcome (eachAnswer st) = map (λ a. step st (does 0 a) .answer) actions
-outcome (scanned st ss t room) = listedNumbers (scan (stateAfter st ss) t (replicate room 99))
-outcome (read st ss t k) = foundNumbers (pointRead (stateAfter st ss) t k)
-outcome (stands st ss w k) = standing (stateAfter st ss .shared) (writerOf (stateAfter st ss) w) k
-outcome (place g n k) = rowAt g n k ∷ []
-outcome (rows st ss is) = rowsNumbers (stateAfter st ss .shared) is
-outcome (instants st ss ts) = instantsNumbers (stateAfter st ss) ts
-outcome (history ss) = historyNumbers (after ss .history)
-outcome (stored ss n k) = valueNumbers (after ss .stored n k)
-outcome (judged st) =
+unfoldable pub result : Case → List ℕ
+result (encode n) = encoded n
+result (decode bytes) = decodedNumbers (decodedAt bytes 0)
+result (answers st ss) = answersFrom commitMachine st ss
+result (eachAnswer st) = map (λ a. step st (does 0 a) .answer) actions
+result (scanned st ss t room) = listedNumbers (scan (afterSteps st ss) t (replicate room 99))
+result (read st ss t k) = foundNumbers (pointRead (afterSteps st ss) t k)
+result (stands st ss w k) = standing (afterSteps st ss .shared) (writerOf (afterSteps st ss) w) k
+result (place g n k) = rowAt g n k ∷ []
+result (rows st ss is) = rowsNumbers (afterSteps st ss .shared) is
+result (instants st ss ts) = instantsNumbers (afterSteps st ss) ts
+result (history ss) = historyNumbers (after ss .history)
+result (stored ss n k) = valueNumbers (after ss .stored n k)
+result (judged st) =
     step st (does 8 (Start (Put 32 0 8))) .answer
     ∷ foundNumbers (pointRead st 1 32) ++ listedNumbers (scan st 1 (replicate 2 99)) ++ instantNumbers (instantAt st 1)
 

@@ -23,7 +23,7 @@ use Rattle.model.specs.declared.Action.the-variants.{Start, LookUp, Read, Write
 use Rattle.model.specs.declared.Step.{Step}
 use Rattle.traces.specs.Cases.{Case, encode, decode, answers, eachAnswer, scanned, read, stands}
 use Rattle.traces.specs.Cases.{place, rows, instants, history, stored, judged}
-use Rattle.traces.specs.Cases.{writerNumbers, inProgress, committedAt, does, outcome, Trace, _gives_}
+use Rattle.traces.specs.Cases.{writerNumbers, pendingOperation, committedOperation, does, result, Trace, _gives_}
 
 -- a started operation carried out to its commit, from its look up on
 abbrev restOf : ℕ → List Step
@@ -146,28 +146,28 @@ abbrev holding : Writer → State
 holding x = withWriter (table (withEntry (withLock (withInstants (completed 0 ∷ completed 1 ∷ [])) 6) 5 4)) 0 x
 
 -- n timestamps are issued, and every other number is the largest in range; one row is shown at timestamp 1
-abbrev largest : ℕ → State
-largest n =
+abbrev atLargest : ℕ → State
+atLargest n =
     record {
       shared = withRow 7 1 0 10 (withIndex (withLock (withInstants (replicate n (completed 7))) 8) (replicate 32 8));
       writers = replicate 8 (busy 6 31 7 n n);
     }
 
 -- the same, with something else in what writers share, or in one writer
-abbrev largestBut : ℕ → (Shared → Shared) → State
-largestBut n change = record { shared = change (largest n .shared); writers = largest n .writers }
+abbrev atLargestBut : ℕ → (Shared → Shared) → State
+atLargestBut n change = record { shared = change (atLargest n .shared); writers = atLargest n .writers }
 
 -- no ground of 17: the step gives 10, the read 12, the scan 31, and the instant is completed in group 7
-abbrev ranged : List ℕ
-ranged = 10 ∷ 12 ∷ 31 ∷ 0 ∷ 99 ∷ 99 ∷ 0 ∷ 3 ∷ 7 ∷ []
+abbrev inRangeNumbers : List ℕ
+inRangeNumbers = 10 ∷ 12 ∷ 31 ∷ 0 ∷ 99 ∷ 99 ∷ 0 ∷ 3 ∷ 7 ∷ []
 
 -- a ground of 17: all four calls give it, and the scan stores nothing
-abbrev unranged : List ℕ
-unranged = 17 ∷ 17 ∷ 17 ∷ 0 ∷ 99 ∷ 99 ∷ 17 ∷ []
+abbrev outOfRangeNumbers : List ℕ
+outOfRangeNumbers = 17 ∷ 17 ∷ 17 ∷ 0 ∷ 99 ∷ 99 ∷ 17 ∷ []
 
 -- the record of a ready writer
-abbrev zeros : List ℕ
-zeros = 0 ∷ 0 ∷ 0 ∷ 0 ∷ 0 ∷ 0 ∷ 0 ∷ []
+abbrev readyNumbers : List ℕ
+readyNumbers = 0 ∷ 0 ∷ 0 ∷ 0 ∷ 0 ∷ 0 ∷ 0 ∷ []
 
 -- n writers have nothing in progress
 abbrev idle : ℕ → List ℕ
@@ -218,16 +218,16 @@ traces =
     ∷ (read fresh p10 100 1 gives 0 ∷ 1 ∷ 10 ∷ 1 ∷ [])
     ∷ (read fresh p10 4 3 gives 0 ∷ 0 ∷ [])
     -- histories: operations that ended with 5, 4, 3 and 2 and by an abort are not in progress; one in progress; the group is the table's
-    ∷ (history (p5 0 1) gives 2 ∷ idle 8 ++ committedAt 1 0 (Put 0 10 0))
-    ∷ (history p6 gives 2 ∷ idle 8 ++ committedAt 1 0 (Put 1 10 0))
-    ∷ (history p7 gives 3 ∷ idle 8 ++ committedAt 3 0 (Put 0 12 0) ++ committedAt 1 0 (Put 0 10 0))
+    ∷ (history (p5 0 1) gives 2 ∷ idle 8 ++ committedOperation 1 0 (Put 0 10 0))
+    ∷ (history p6 gives 2 ∷ idle 8 ++ committedOperation 1 0 (Put 1 10 0))
+    ∷ (history p7 gives 3 ∷ idle 8 ++ committedOperation 3 0 (Put 0 12 0) ++ committedOperation 1 0 (Put 0 10 0))
     ∷ (history p8 gives 1 ∷ idle 8)
     ∷ (history (startAndAbort 0) gives 1 ∷ idle 8)
-    ∷ (history aborts gives 3 ∷ inProgress 3 (Put 1 11 6) ++ idle 7)
+    ∷ (history aborts gives 3 ∷ pendingOperation 3 (Put 1 11 6) ++ idle 7)
     ∷ (history p10
-    gives 4 ∷ inProgress 3 (Put 1 11 1) ++ idle 7 ++ committedAt 4 2 (Put 2 21 2) ++ committedAt 2 2 (Put 2 20 2) ++ committedAt 1 1 (Put 1 10 1))
-    ∷ (history beside gives 2 ∷ inProgress 1 (Put 0 10 0) ++ idle 7)
-    ∷ (history putAndRemove gives 3 ∷ idle 8 ++ committedAt 3 1 (Remove 1) ++ committedAt 2 1 (Put 1 11 5) ++ committedAt 1 1 (Put 1 10 1))
+    gives 4 ∷ pendingOperation 3 (Put 1 11 1) ++ idle 7 ++ committedOperation 4 2 (Put 2 21 2) ++ committedOperation 2 2 (Put 2 20 2) ++ committedOperation 1 1 (Put 1 10 1))
+    ∷ (history beside gives 2 ∷ pendingOperation 1 (Put 0 10 0) ++ idle 7)
+    ∷ (history putAndRemove gives 3 ∷ idle 8 ++ committedOperation 3 1 (Remove 1) ++ committedOperation 2 1 (Put 1 11 5) ++ committedOperation 1 1 (Put 1 10 1))
     -- what write steps stored: nothing before them; the rows of the base with the key put; also where the operation ends
     ∷ (stored (take 10 secondPut) 2 5 gives 0 ∷ [])
     ∷ (stored (take 11 secondPut) 2 5 gives 1 ∷ 10 ∷ [])
@@ -243,7 +243,7 @@ traces =
     ∷ (instants fresh aborts (1 ∷ 2 ∷ 3 ∷ []) gives isRequested ++ isInflight 5 ++ isRequested)
     ∷ (instants fresh p10 (1 ∷ 2 ∷ 3 ∷ 4 ∷ []) gives isCompleted 1 ++ isCompleted 2 ++ isRequested ++ isCompleted 2)
     -- a fresh table
-    ∷ (stands fresh [] 0 0 gives 0 ∷ 0 ∷ 0 ∷ zeros)
+    ∷ (stands fresh [] 0 0 gives 0 ∷ 0 ∷ 0 ∷ readyNumbers)
     -- a table at each step of an operation: writer 2 puts key 6 in group 3, whose base is timestamp 1
     ∷ (stands fresh (take 8 secondPut) 2 6 gives 2 ∷ 0 ∷ 0 ∷ writerNumbers (busy 1 6 3 2 0))
     ∷ (stands fresh (take 9 secondPut) 2 6 gives 2 ∷ 0 ∷ 0 ∷ writerNumbers (busy 2 6 3 2 0))
@@ -251,19 +251,19 @@ traces =
     ∷ (stands fresh (take 11 secondPut) 2 6 gives 2 ∷ 0 ∷ 0 ∷ writerNumbers (busy 4 6 3 2 1))
     ∷ (stands fresh (take 12 secondPut) 2 6 gives 2 ∷ 3 ∷ 4 ∷ writerNumbers (busy 5 6 3 2 1))
     ∷ (stands fresh (take 13 secondPut) 2 6 gives 2 ∷ 3 ∷ 4 ∷ writerNumbers (busy 6 6 3 2 1))
-    ∷ (stands fresh secondPut 2 6 gives 2 ∷ 0 ∷ 4 ∷ zeros)
+    ∷ (stands fresh secondPut 2 6 gives 2 ∷ 0 ∷ 4 ∷ readyNumbers)
     -- a remove carries no value and no group before its look up, and its index step enters nothing
     ∷ (stands fresh (does 2 (Start (Remove 6)) ∷ []) 2 6 gives 1 ∷ 0 ∷ 0 ∷ writerNumbers (removing 1 6 0 1 0))
     ∷ (stands (withWriter (table (withInstants (inflight 0 ∷ []))) 0 (removing 4 6 0 1 0)) (does 0 Index ∷ []) 0 6
     gives 1 ∷ 1 ∷ 0 ∷ writerNumbers (removing 5 6 0 1 0))
     -- after an ending the writer is ready: 5, 4, 3 and 2; it frees its own lock and no other's
-    ∷ (stands fresh (p5 0 1) 1 1 gives 2 ∷ 0 ∷ 1 ∷ zeros)
-    ∷ (stands fresh p6 1 1 gives 2 ∷ 0 ∷ 1 ∷ zeros)
-    ∷ (stands fresh p7 1 0 gives 3 ∷ 0 ∷ 1 ∷ zeros)
-    ∷ (stands fresh p8 0 0 gives 1 ∷ 0 ∷ 0 ∷ zeros)
-    ∷ (stands (holding (busy 3 6 0 2 0)) (does 0 Abort ∷ []) 0 6 gives 2 ∷ 6 ∷ 0 ∷ zeros)
-    ∷ (stands (holding (busy 5 6 0 1 0)) (does 0 Check ∷ []) 0 6 gives 2 ∷ 6 ∷ 0 ∷ zeros)
-    ∷ (stands (holding (busy 6 6 0 2 2)) (does 0 Commit ∷ []) 0 6 gives 2 ∷ 6 ∷ 0 ∷ zeros)
+    ∷ (stands fresh (p5 0 1) 1 1 gives 2 ∷ 0 ∷ 1 ∷ readyNumbers)
+    ∷ (stands fresh p6 1 1 gives 2 ∷ 0 ∷ 1 ∷ readyNumbers)
+    ∷ (stands fresh p7 1 0 gives 3 ∷ 0 ∷ 1 ∷ readyNumbers)
+    ∷ (stands fresh p8 0 0 gives 1 ∷ 0 ∷ 0 ∷ readyNumbers)
+    ∷ (stands (holding (busy 3 6 0 2 0)) (does 0 Abort ∷ []) 0 6 gives 2 ∷ 6 ∷ 0 ∷ readyNumbers)
+    ∷ (stands (holding (busy 5 6 0 1 0)) (does 0 Check ∷ []) 0 6 gives 2 ∷ 6 ∷ 0 ∷ readyNumbers)
+    ∷ (stands (holding (busy 6 6 0 2 2)) (does 0 Commit ∷ []) 0 6 gives 2 ∷ 6 ∷ 0 ∷ readyNumbers)
     -- a start takes nothing over from the record of a ready writer
     ∷ (stands (holding (busy 0 6 1 2 2)) (does 0 (Start (Put 5 55 3)) ∷ []) 0 5 gives 3 ∷ 6 ∷ 4 ∷ writerNumbers (busy 1 5 3 3 0))
     -- a look up leaves the base, of a key that is indexed or not; a read at the writer's own timestamp is not too late; a check at the base is no change
@@ -272,8 +272,8 @@ traces =
     ∷ (stands (holding (busy 2 6 1 2 0)) (does 0 Read ∷ []) 0 6 gives 2 ∷ 6 ∷ 0 ∷ writerNumbers (busy 3 6 1 2 2))
     ∷ (stands (holding (busy 5 6 1 1 2)) (does 0 Check ∷ []) 0 6 gives 2 ∷ 6 ∷ 0 ∷ writerNumbers (busy 6 6 1 1 2))
     -- the last timestamp of all counts for a read and for a check
-    ∷ (answers (withWriter (largest 64) 0 (busy 2 31 7 63 0)) (does 0 Read ∷ []) gives 3 ∷ [])
-    ∷ (answers (withWriter (largest 64) 0 (busy 5 31 7 64 63)) (does 0 Check ∷ []) gives 5 ∷ [])
+    ∷ (answers (withWriter (atLargest 64) 0 (busy 2 31 7 63 0)) (does 0 Read ∷ []) gives 3 ∷ [])
+    ∷ (answers (withWriter (atLargest 64) 0 (busy 5 31 7 64 63)) (does 0 Check ∷ []) gives 5 ∷ [])
     -- an index step that holds the lock already
     ∷ (stands (withWriter (table (withLock (withInstants (inflight 0 ∷ [])) 1)) 0 (busy 4 6 0 1 0)) (does 0 Index ∷ []) 0 6
     gives 1 ∷ 1 ∷ 1 ∷ writerNumbers (busy 5 6 0 1 0))
@@ -311,39 +311,39 @@ traces =
     ∷ (read oneKeyTwice [] 2 5 gives 0 ∷ 1 ∷ 8 ∷ 0 ∷ [])
     ∷ (read oneKeyTwice [] 1 5 gives 0 ∷ 1 ∷ 7 ∷ 1 ∷ [])
     -- in range: every number the largest, with 64 timestamps issued and with 63; a ready writer with a timestamp; a base above the timestamp
-    ∷ (judged (largest 64) gives ranged)
-    ∷ (judged (largest 63) gives ranged)
-    ∷ (judged (withWriter (largest 63) 0 (busy 0 31 7 63 63)) gives ranged)
-    ∷ (judged (withWriter (largest 63) 0 (busy 0 31 7 0 63)) gives ranged)
-    ∷ (judged (withWriter (largest 63) 0 (busy 6 31 7 1 63)) gives ranged)
+    ∷ (judged (atLargest 64) gives inRangeNumbers)
+    ∷ (judged (atLargest 63) gives inRangeNumbers)
+    ∷ (judged (withWriter (atLargest 63) 0 (busy 0 31 7 63 63)) gives inRangeNumbers)
+    ∷ (judged (withWriter (atLargest 63) 0 (busy 0 31 7 0 63)) gives inRangeNumbers)
+    ∷ (judged (withWriter (atLargest 63) 0 (busy 6 31 7 1 63)) gives inRangeNumbers)
     -- out of range by one number: the last timestamp; the lock
-    ∷ (judged (largestBut 64 (λ s. withLast s 65)) gives unranged)
-    ∷ (judged (largestBut 63 (λ s. withLock s 9)) gives unranged)
+    ∷ (judged (atLargestBut 64 (λ s. withLast s 65)) gives outOfRangeNumbers)
+    ∷ (judged (atLargestBut 63 (λ s. withLock s 9)) gives outOfRangeNumbers)
     -- of the first writer and of the last: phase, key, group, timestamp, base, timestamp 0 off phase 0
-    ∷ (judged (withWriter (largest 63) 0 (busy 7 31 7 63 63)) gives unranged)
-    ∷ (judged (withWriter (largest 63) 0 (busy 6 32 7 63 63)) gives unranged)
-    ∷ (judged (withWriter (largest 63) 0 (busy 6 31 8 63 63)) gives unranged)
-    ∷ (judged (withWriter (largest 63) 0 (busy 6 31 7 64 63)) gives unranged)
-    ∷ (judged (withWriter (largest 63) 0 (busy 6 31 7 63 64)) gives unranged)
-    ∷ (judged (withWriter (largest 63) 0 (busy 1 31 7 0 63)) gives unranged)
-    ∷ (judged (withWriter (largest 63) 7 (busy 7 31 7 63 63)) gives unranged)
-    ∷ (judged (withWriter (largest 63) 7 (busy 6 32 7 63 63)) gives unranged)
-    ∷ (judged (withWriter (largest 63) 7 (busy 6 31 8 63 63)) gives unranged)
-    ∷ (judged (withWriter (largest 63) 7 (busy 6 31 7 64 63)) gives unranged)
-    ∷ (judged (withWriter (largest 63) 7 (busy 6 31 7 63 64)) gives unranged)
-    ∷ (judged (withWriter (largest 63) 7 (busy 1 31 7 0 63)) gives unranged)
+    ∷ (judged (withWriter (atLargest 63) 0 (busy 7 31 7 63 63)) gives outOfRangeNumbers)
+    ∷ (judged (withWriter (atLargest 63) 0 (busy 6 32 7 63 63)) gives outOfRangeNumbers)
+    ∷ (judged (withWriter (atLargest 63) 0 (busy 6 31 8 63 63)) gives outOfRangeNumbers)
+    ∷ (judged (withWriter (atLargest 63) 0 (busy 6 31 7 64 63)) gives outOfRangeNumbers)
+    ∷ (judged (withWriter (atLargest 63) 0 (busy 6 31 7 63 64)) gives outOfRangeNumbers)
+    ∷ (judged (withWriter (atLargest 63) 0 (busy 1 31 7 0 63)) gives outOfRangeNumbers)
+    ∷ (judged (withWriter (atLargest 63) 7 (busy 7 31 7 63 63)) gives outOfRangeNumbers)
+    ∷ (judged (withWriter (atLargest 63) 7 (busy 6 32 7 63 63)) gives outOfRangeNumbers)
+    ∷ (judged (withWriter (atLargest 63) 7 (busy 6 31 8 63 63)) gives outOfRangeNumbers)
+    ∷ (judged (withWriter (atLargest 63) 7 (busy 6 31 7 64 63)) gives outOfRangeNumbers)
+    ∷ (judged (withWriter (atLargest 63) 7 (busy 6 31 7 63 64)) gives outOfRangeNumbers)
+    ∷ (judged (withWriter (atLargest 63) 7 (busy 1 31 7 0 63)) gives outOfRangeNumbers)
     -- the index entry of the first key and of the last
-    ∷ (judged (largestBut 63 (λ s. withEntry s 0 9)) gives unranged)
-    ∷ (judged (largestBut 63 (λ s. withEntry s 31 9)) gives unranged)
+    ∷ (judged (atLargestBut 63 (λ s. withEntry s 0 9)) gives outOfRangeNumbers)
+    ∷ (judged (atLargestBut 63 (λ s. withEntry s 31 9)) gives outOfRangeNumbers)
     -- the group of the first instant and of the last; an instant right above the last timestamp, and one far above
-    ∷ (judged (largestBut 64 (λ s. withInstant s 1 (completed 8))) gives unranged)
-    ∷ (judged (largestBut 64 (λ s. withInstant s 64 (completed 8))) gives unranged)
-    ∷ (judged (largestBut 62 (λ s. withInstant s 63 requested)) gives unranged)
-    ∷ (judged (largestBut 62 (λ s. withInstant s 64 requested)) gives unranged)
+    ∷ (judged (atLargestBut 64 (λ s. withInstant s 1 (completed 8))) gives outOfRangeNumbers)
+    ∷ (judged (atLargestBut 64 (λ s. withInstant s 64 (completed 8))) gives outOfRangeNumbers)
+    ∷ (judged (atLargestBut 62 (λ s. withInstant s 63 requested)) gives outOfRangeNumbers)
+    ∷ (judged (atLargestBut 62 (λ s. withInstant s 64 requested)) gives outOfRangeNumbers)
     ∷ []
 
-pub traces-hold : map (λ (t : Trace). outcome (t .case)) traces ≡ map (λ (t : Trace). t .stated) traces
-unfolding traces outcome encoded encodedIn decodedAt decodedIn decodedNumbers answersFrom executed next step stepTested ruled act
+pub traces-hold : map (λ (t : Trace). result (t .case)) traces ≡ map (λ (t : Trace). t .stated) traces
+unfolding traces result encoded encodedIn decodedAt decodedIn decodedNumbers answersFrom executed next step stepTested ruled act
     start lookUp readBase writeSlice enterIndex checkConflict commit abort inRange eachBelow writersInRange indexInRange instantsInRange noneAbove
     newest cell copied sliced fresh scan rowsAt numbers listBelow pointRead instantState instantAt
     upd empty startRecorded commitRecorded endRecorded recorded storedBy

@@ -1,5 +1,5 @@
 -- The text of a log that is run is that of its steps.
---     taken-printed    of those that the run takes
+--     consumed-printed    of those that the run takes
 --     log-printed      which are all that the log reads as
 use Prim.Native.Nat.{ℕ, _≤_, _<_}
 use native.Mathlib.Decide.{ℕ-discrete, decLt}
@@ -31,29 +31,29 @@ module _ (log answers : List ℕ) where
   abbrev run : Run State
   run = runOf (ofLog log) fresh answers
 
-  abbrev taken : LogRead
-  taken = takenFrom (ofLog log) (length answers) 0
+  abbrev consumed : LogRead
+  consumed = takenFrom (ofLog log) (length answers) 0
 
-  last-issued : run .state .shared .last ≡ after (taken .steps) .history .last
-  last-issued = ap (λ (st : State). st .shared .last) (run-state answers (ofLog log)) ∙ sym (reached (taken .steps) .invariant .last)
+  last-issued : run .state .shared .last ≡ after (consumed .steps) .history .last
+  last-issued = ap (λ (st : State). st .shared .last) (run-state answers (ofLog log)) ∙ sym (reached (consumed .steps) .invariant .last)
 
-  rows-listed : rowsAt (run .state .shared) (run .state .shared .last) ≡ listing (after (taken .steps) .history) (after (taken .steps) .history .last)
-  rows-listed = rows-of-history log answers _ ∙ ap (listing (after (taken .steps) .history)) last-issued
+  rows-listed : rowsAt (run .state .shared) (run .state .shared .last) ≡ listing (after (consumed .steps) .history) (after (consumed .steps) .history .last)
+  rows-listed = rows-of-history log answers _ ∙ ap (listing (after (consumed .steps) .history)) last-issued
 
-  answers-given : take (run .count) (run .answers) ≡ answersTo (taken .steps)
+  answers-given : take (run .count) (run .answers) ≡ answersTo (consumed .steps)
   unfolding runOf
   answers-given = answers-taken _ (ofLog log) fresh answers
 
-  ended : (run .stop ≡ taken .stop) × (run .offset ≡ taken .offset)
+  same-end : (run .stop ≡ consumed .stop) × (run .offset ≡ consumed .offset)
   unfolding runOf
-  ended = let is = run-taken _ (ofLog log) fresh answers in (ap (λ (r : Run State). r .stop) is, ap (λ (r : Run State). r .offset) is)
+  same-end = let is = run-taken _ (ofLog log) fresh answers in (ap (λ (r : Run State). r .stop) is, ap (λ (r : Run State). r .offset) is)
 
-  run-reported : reported run ≡ stepsText taken
-  run-reported = rw (answers-given, ended .0, ended .1, rows-listed)
+  run-reported : reported run ≡ stepsText consumed
+  run-reported = rw (answers-given, same-end .0, same-end .1, rows-listed)
 
-pub taken-printed : (log : List ℕ) → length log ≤ maxLog → transcript log ≡ stepsText (takenFrom (ofLog log) maxAnswers 0)
+pub consumed-printed : (log : List ℕ) → length log ≤ maxLog → transcript log ≡ stepsText (takenFrom (ofLog log) maxAnswers 0)
 unfolding transcript
-taken-printed log short =
+consumed-printed log short =
     rw (le-ltb _ _ short) (run-reported log (replicate maxAnswers 0) ∙ ap (λ (n : ℕ). stepsText (takenFrom (ofLog log) n 0))
     (length-replicate {A = ℕ} maxAnswers 0))
 
@@ -77,4 +77,4 @@ module _ (log : List ℕ) (are-bytes : (i : ℕ) → getD log i 0 < 256) (short 
       (λ ne. rw (ne-eqb _ _ ne) (omega (arith, at .behind, stops-inside ne, steps-most (reads .steps))))
 
   pub log-printed : transcript log ≡ stepsText reads
-  log-printed = rw (← log-taken-whole log are-bytes maxAnswers places-enough) (taken-printed log short)
+  log-printed = rw (← log-taken-whole log are-bytes maxAnswers places-enough) (consumed-printed log short)

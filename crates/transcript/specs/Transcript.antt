@@ -1,5 +1,5 @@
 -- What the program prints for a log (document 01, The step log, the program; What the engine holds, its input).
-use Prim.Native.Nat.{ℕ}
+use Prim.Native.Nat.{ℕ, _/_}
 use mathlib.Core.Bool.{cond}
 use mathlib.Core.List.{List, _++_}
 use lib.ListN.{length, take, replicate}
@@ -22,7 +22,7 @@ maxLog = 32768
 
 -- places for the answers of a log: a record has at least two bytes
 abbrev pub maxAnswers : ℕ
-maxAnswers = 16384
+maxAnswers = maxLog / 2
 
 -- room for any text: no key has two rows
 abbrev pub maxText : ℕ

@@ -39,8 +39,8 @@ decide-requires c κs = let t = c .before .before .before .before .before .befor
     let a = c .before .before .before .before .before .before .before .before .before .before .before .before .before in
     (omega arith, actor-bounds (now (a .args .last)) (a .args .x) (sym (t .before .actor-in-range .ensures) ∙ not-false _ (t .if3 .left)))
 
-close-requires : tie.Need-close-requires
-close-requires c κs = search needs
+carry-out-requires : tie.Need-carry-out-requires
+carry-out-requires c κs = search needs
 
 returns-4 : tie.Need-returns-4
 unfolding actOnParts act
@@ -48,7 +48,7 @@ returns-4 c = let t = c .before .before .before .before .before .before .before 
     let i = c .before .before .before .before .before .before .before .before .before .before .before .before .before in
     λ o.
     rw (i .before .before .if1 .left, lt-leb _ _ (i .if2 .left), ← t .before .actor-in-range .ensures, t .if3 .left)
-    (carries (c .close .ensures) (c .before .before .decide .ensures _ o) refl refl)
+    (carries (c .carry-out .ensures) (c .before .before .decide .ensures _ o) refl refl)
 
 pub act-spec : {M : Type 1} → statement M
 act-spec =
@@ -61,5 +61,5 @@ act-spec =
     returns-3
     cast-w
     decide-requires
-    close-requires
+    carry-out-requires
     returns-4)

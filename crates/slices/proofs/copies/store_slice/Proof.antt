@@ -1,7 +1,7 @@
 -- `store_slice` meets its contract: where the writer's numbers name a slice, by those of its callees.
 use mathlib.Core.Path.{refl, sym, _∙_}
 use borrow.Author.Tests.{not-true, not-false}
-use Rattle.slices.specs.Slices.{rowsStored}
+use Rattle.slices.specs.Slices.{sliceStored}
 use Rattle.slices.proofs.Names.{named}
 use borrow.Author.Needs.{needs}
 use Rattle.slices.proofs.copies.store_slice.Statement.{statement}
@@ -11,7 +11,7 @@ names-slice-requires : tie.Need-names-slice-requires
 names-slice-requires c κs = search needs
 
 returns : tie.Need-returns
-unfolding rowsStored
+unfolding sliceStored
 returns c = let e = sym (c .before .names-slice .ensures) ∙ not-true _ (c .if1 .taken) in rw e (refl, refl)
 
 cast-group : tie.Need-cast-group
@@ -37,7 +37,7 @@ slice-values-requires c κs = let t = c .before .before .before .before .before 
     search needs
 
 returns-2 : tie.Need-returns-2
-unfolding rowsStored
+unfolding sliceStored
 returns-2 c = let t = c .before .before .before .before .before .before .before .before in
     let e = sym (t .before .names-slice .ensures) ∙ not-false _ (t .if1 .left) in
     rw e (c .before .before .slice-present .ensures, c .slice-values .ensures)

@@ -6,7 +6,7 @@ use lib.ListN.{getD}
 use borrow.Author.Needs.{needs}
 use Rattle.model.specs.Limits.{keys}
 use Rattle.snapshot.specs.Inner.{countWith, lowestWith}
-use Rattle.common.proofs.Lists.{Changed, change-none, change-next, change-end}
+use Rattle.common.proofs.Loops.{Changed, change-none, change-next, change-end}
 use Rattle.snapshot.proofs.rows.count_slice.Statement.{statement}
 use Rattle.snapshot.proofs.rows.count_slice.Tie as tie
 

@@ -1,15 +1,15 @@
--- `first_row` meets its contract. The loop's invariant is `Searched` of proofs/FirstRow. The measure is the number of groups left.
+-- `first_row` meets its contract. The loop's invariant is `NoneBelow` of proofs/FirstRow. The measure is the number of groups left.
 use Prim.Native.Nat.{_-_}
 use native.Mathlib.Omega.{arith}
 use mathlib.Core.Path.{sym, _∙_}
 use borrow.Author.Needs.{needs}
 use Rattle.model.specs.Limits.{groups}
-use Rattle.snapshot.proofs.FirstRow.{Searched, search-none, search-place, search-hit, search-miss, search-end}
+use Rattle.snapshot.proofs.FirstRow.{NoneBelow, search-none, search-place, search-hit, search-miss, search-end}
 use Rattle.snapshot.proofs.rows.first_row.Statement.{statement}
 use Rattle.snapshot.proofs.rows.first_row.Tie as tie
 
 abbrev Inv-loop : tie.InvT-loop
-Inv-loop present values key slices group₀ group = Searched slices present values key group
+Inv-loop present values key slices group₀ group = NoneBelow slices present values key group
 
 abbrev μ-loop : tie.MeasureT-loop
 μ-loop present values key slices group₀ group = groups - group

@@ -4,7 +4,7 @@ use native.Mathlib.Omega.{arith}
 use lib.ListN.{getD}
 use borrow.Author.Needs.{needs}
 use Rattle.model.specs.Limits.{keys, groups}
-use Rattle.common.proofs.Lists.{Summed, sum-none, sum-next, sum-end}
+use Rattle.common.proofs.Loops.{Summed, sum-none, sum-next, sum-end}
 use Rattle.snapshot.proofs.rows.total.Statement.{statement}
 use Rattle.snapshot.proofs.rows.total.Tie as tie
 

@@ -9,7 +9,7 @@ use borrow.Fn.Kinds.{In}
 use borrow.Fn.PlainCycle.{Measures, is, falls, and}
 use Rattle.transcript.specs.Text.{zeroDigit, decimal}
 use Rattle.transcript.proofs.Decimal.{decimal-short, decimal-long}
-use Rattle.common.proofs.Pieces.{Fits, both-fit, first-fits, rest-fits, last-joined, element-pasted}
+use Rattle.common.proofs.Pieces.{Fits, both-fit, first-fits, rest-fits, both-pasted, element-pasted}
 use Rattle.transcript.proofs.text.put_decimal.Reads as put-decimal
 use Rattle.transcript.proofs.text.put_decimal.Kinds as put-decimal-kinds
 use Rattle.transcript.proofs.text.+put_decimal.Lts-put_decimal as code
@@ -71,7 +71,7 @@ module _ (t : ℕ) where
 
   returns-2 : code.Need-returns-2 (below t, put-decimal.Post) (given t) put-decimal.Post
   returns-2 c = let long = c .before .before .before .before in
-      rw (decimal-long _ (long .if1 .left) (long .before .before .fits .number .fits)) (last-joined (pieces long) (c .before .before .put-decimal .ensures)
+      rw (decimal-long _ (long .if1 .left) (long .before .before .fits .number .fits)) (both-pasted (pieces long) (c .before .before .put-decimal .ensures)
       (element-pasted _ _ _ (slice-write-text-2 c)))
 
 pub +put-decimal-spec : {M : Type 1} → statement M

@@ -3,7 +3,7 @@ use mathlib.Core.List.{[], _∷_}
 use native.Mathlib.Omega.{arith}
 use borrow.Author.Needs.{needs}
 use Rattle.transcript.specs.Text.{decimal, field}
-use Rattle.common.proofs.Pieces.{Fits, both-fit, first-fits, rest-fits, last-joined, element-pasted}
+use Rattle.common.proofs.Pieces.{Fits, both-fit, first-fits, rest-fits, both-pasted, element-pasted}
 use Rattle.transcript.proofs.text.put_field.Statement.{statement}
 use Rattle.transcript.proofs.text.put_field.Tie as tie
 
@@ -25,7 +25,7 @@ same-length c = search needs
 
 returns : tie.Need-returns
 unfolding field
-returns c = last-joined (pieces (c .before .before .before .before .before)) (c .before .before .put-decimal .ensures)
+returns c = both-pasted (pieces (c .before .before .before .before .before)) (c .before .before .put-decimal .ensures)
     (element-pasted _ _ _ (slice-write-text c))
 
 pub put-field-spec : {M : Type 1} → statement M

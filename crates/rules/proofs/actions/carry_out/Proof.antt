@@ -1,7 +1,7 @@
--- `close` meets its contract, by cases of the verdict.
+-- `carry_out` meets its contract, by cases of the verdict.
 use borrow.Author.Needs.{needs}
-use Rattle.rules.proofs.actions.close.Statement.{statement}
-use Rattle.rules.proofs.actions.close.Tie as tie
+use Rattle.rules.proofs.actions.carry_out.Statement.{statement}
+use Rattle.rules.proofs.actions.carry_out.Tie as tie
 
 enum-known-v : tie.Need-enum-known-v
 enum-known-v c = search needs
@@ -27,8 +27,8 @@ returns-2 c = λ s. record { same = rw (c .before .before .before .before .v2 .g
 returns-3 : tie.Need-returns-3
 returns-3 c = λ s. record { same = rw (c .before .v3 .given .1) }
 
-pub close-spec : {M : Type 1} → statement M
-close-spec =
+pub carry-out-spec : {M : Type 1} → statement M
+carry-out-spec =
     tie.close
     (tie.spec
     enum-known-v

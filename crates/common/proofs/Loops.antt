@@ -1,52 +1,15 @@
--- Lists made by counting (`listBelow`), and loops that change a list (`Changed`) and sum one up (`Summed`).
-use Prim.Native.Nat.{ℕ, zero, suc, _+_, _-_, _*_, _<_, _≤_}
+-- Loops over the numbers below n, as invariants with one law for each way round.
+--     Changed    a list is changed place by place: change-none, change-next, change-end
+--     Summed     numbers are summed up: sum-none, sum-next, sum-end
+use Prim.Native.Nat.{ℕ, _+_, _*_, _<_, _≤_}
 use native.Mathlib.Numerals.{add-one}
 use native.Mathlib.Omega.{arith}
-use mathlib.Core.Path.{_≡_, refl, sym, _∙_, ap}
-use mathlib.Core.List.{List, [], _∷_, _++_, append-nil, append-assoc}
-use lib.ListN.{getD, set, length, length-set, length-append}
+use mathlib.Core.Path.{_≡_, refl, _∙_, ap}
+use mathlib.Core.List.{List}
+use lib.ListN.{getD, set, length, length-set}
 use lib.Seq.{getD-set-same, getD-set-other}
 use borrow.Author.Count.{below-more}
-use Rattle.common.specs.Counting.{listBelow}
 use Rattle.common.specs.Counting.{sum}
-
-pub no-length : {A : Type 0} (l : List A) → length l ≡ 0 → l ≡ []
-no-length [] e = refl
-no-length (x ∷ xs) e = absurd (omega arith)
-
-module _ {A : Type 0} where
-  pub list-more : (n : ℕ) (f : ℕ → List A) → listBelow (n + 1) f ≡ listBelow n f ++ f n
-  unfolding listBelow
-  list-more n f = rw add-one
-
-  pub length-more : (n : ℕ) (f : ℕ → List A) → length (listBelow (n + 1) f) ≡ length (listBelow n f) + length (f n)
-  length-more n f = ap length (list-more n f) ∙ length-append (listBelow n f) (f n)
-
-  -- the part below n, and what comes behind
-  list-split : (m n : ℕ) (f : ℕ → List A) → listBelow (n + m) f ≡ listBelow n f ++ listBelow m (λ i. f (n + i))
-  unfolding listBelow
-  list-split zero n f = let e : n + 0 ≡ n = omega arith in rw e (sym (append-nil (listBelow n f)))
-  list-split (suc m) n f =
-      let e : n + suc m ≡ suc (n + m) = omega arith in
-      rw (e, list-split m n f) (append-assoc (listBelow n f) (listBelow m (λ i. f (n + i))) (f (n + m)))
-
-  module _ (n all : ℕ) (f : ℕ → List A) (h : n ≤ all) where
-    abbrev rest : List A
-    rest = listBelow (all - n) (λ i. f (n + i))
-
-    pub list-rest : listBelow all f ≡ listBelow n f ++ rest
-    list-rest = let e : n + (all - n) ≡ all = omega arith in rw e at (list-split (all - n) n f)
-
-    pub list-whole : length (listBelow n f) ≡ length (listBelow all f) → listBelow n f ≡ listBelow all f
-    list-whole e =
-        let l = ap length list-rest ∙ length-append (listBelow n f) rest in
-        sym (list-rest ∙ rw (no-length rest (omega arith)) (append-nil (listBelow n f)))
-
-  pub sum-length : (n : ℕ) (f : ℕ → List A) (c : ℕ → ℕ) → ((i : ℕ) → i < n → c i ≡ length (f i)) → sum n c ≡ length (listBelow n f)
-  unfolding listBelow sum
-  sum-length zero f c h = refl
-  sum-length (suc n) f c h =
-      rw (sum-length n f c (λ i l. h i (omega arith)), h n (omega arith)) (sym (length-append (listBelow n f) (f n)))
 
 -- a loop that changes a list of n numbers, `old`, place by place: each below i is what f makes of it, the others are as they were
 pub record Changed (f : ℕ → ℕ → ℕ) (n : ℕ) (old xs : List ℕ) (i : ℕ) : Type 0 where
