@@ -13,15 +13,15 @@ use Rattle.model.proofs.Step as S
 use Rattle.steplog.specs.declared.writing.Written.{Written}
 use Rattle.steplog.specs.Writing.{logWritten, LogWritten}
 use Rattle.steplog.proofs.PlainTypes.{step-laws, written-laws}
-use Rattle.walks.proofs.Walks.{URA, named, w64, Val, vint, vptr, SProp, ent, emp, via, fst∗, id⊢, Lft, Share, ftrue, flft, Memory, Routine, Heap, Env}
-use Rattle.walks.proofs.Walks.{WpFn, Tables, Atoms, Fun, givenOf, tablesOf, Given, Item, ‵, raw, _⊛_, ⋆, runs, atRet, Sq, _$_, _∵_, !, qed, by, move}
-use Rattle.walks.proofs.Walks.{keep, drop, use1, split, join, fsplit, fjoin, feqL, suffices, frame, done, agg, whole, sub, look-in, look, init, stop}
-use Rattle.walks.proofs.Walks.{hop, fld, from, lit, addr, of-opd, and-then, no-more, returns, params1, pass1, pass0, lft-new, lft-end, owns, Is, u8}
-use Rattle.walks.proofs.Walks.{usize, RefT, at-last, plain, sliceVal, MutSlice, Room, slice-vals, uint-vals, uint-tells, mut-slice-tells, owned}
-use Rattle.walks.proofs.Walks.{nothing, onEntry, Triple, cited, says, Stays, stay-none, stay-slice, walkOf, goes-none, goes-slice, ends-at, yes}
-use Rattle.walks.proofs.Walks.{Plain, of-word, word, Blocks, locals, spots, enters, frees-all, get, get-field, sets, lands-in, tablesAt, met-by, of-array}
+use Rattle.walks.proofs.Walks.{URA, named, w64, Val, vint, vptr, SProp, ent, emp, via, fst∗, id⊢, Lft, Share, ftrue, flft, Memory, Routine, Heap, Env, WpFn}
+use Rattle.walks.proofs.Walks.{Tables, Atoms, Fun, givenOf, tablesOf, Given, Item, ‵, raw, _⊛_, ⋆, runs, atRet, Sq, _$_, _∵_, !, qed, by, move, keep, drop}
+use Rattle.walks.proofs.Walks.{use1, split, join, fsplit, fjoin, feqL, suffices, agg, whole, sub, look-in, look, init, stop, hop, fld, from, lit, addr, of-opd}
+use Rattle.walks.proofs.Walks.{and-then, no-more, returns, params1, pass1, pass0, lft-new, lft-end, Is, u8, usize, RefT, at-last, plain, sliceVal, MutSlice}
+use Rattle.walks.proofs.Walks.{Room, slice-vals, uint-vals, uint-tells, mut-slice-tells, owned, onEntry, Triple, cited, says, Stays, stay-none, stay-slice}
+use Rattle.walks.proofs.Walks.{walkOf, goes-none, goes-slice, ends-at, yes, Plain, of-word, word, Blocks, locals, spots, enters, frees-all, get, get-field}
+use Rattle.walks.proofs.Walks.{sets, lands-in, tablesAt, met-by, of-array}
 use Rattle.walks.proofs.Calling.{Callee, calls-on, calls-plain, owned-all, told, token-in}
-use Rattle.walks.proofs.Lending.{refTo, renamed, lends-again, comes-back, lends-array, array-back}
+use Rattle.walks.proofs.Lending.{handed, hands-back, refTo, renamed, lends-again, comes-back, lends-array, array-back}
 use Rattle.steplog.proofs.writing.Written as R
 use Rattle.steplog.proofs.write_log as write-log
 use Rattle.encoding.specs.Steps.{putAndLookUp}
@@ -94,10 +94,8 @@ module _ {M : Type 1} (𝓤 : URA M) (H : Heap 𝓤) (A : Atoms 𝓤) (W : Given
   exits r bytes e len is =
       qed W (Owned bytes) ∵ suffices ! _
       (ends-at 𝓤 H A f.ended stayed (f.clauses 𝓤 H A mem run) W bound (written-laws 𝓤 H A W .val r) r (bytes, (tt, tt)) (len, (tt, tt))) $ says ! e $
-      nothing ! $ move ! (2 ∷ 0 ∷ []) $ join ! $ frame ! $
-      owned-all ! (usize ∷ []) (of-word 𝓤 H A W .makes, tt) (at, tt) (vint w64 at ∷ [], tt) ((refl, at-fits), tt) $ move ! (1 ∷ 0 ∷ []) $ fjoin ! $
-      frame ! $
-      owned ! R.the-row (Is R.the-row) (written-laws 𝓤 H A W .makes) r _ is $ done !
+      hands-back W (MutSlice (named 0) κ u8) (usize ∷ []) κ q (at-last x bytes) (v ∷ []) (at, tt) (vint w64 at ∷ [], tt) (of-word 𝓤 H A W .makes, tt)
+      ((refl, at-fits), tt) R.the-row (written-laws 𝓤 H A W .makes) r _ is
 
   module _ (bs : Blocks f.Code.Mir.locals) where
     abbrev En : Env 𝓤 H
@@ -168,8 +166,7 @@ module _ {M : Type 1} (𝓤 : URA M) (H : Heap 𝓤) (A : Atoms 𝓤) (W : Given
   walk : ent 𝓤 (onEntry 𝓤 H A f.signature (κ, tt) (q, tt) (x, (at, tt)) (v ∷ [], (vint w64 at ∷ [], tt)))
       (WpFn 𝓤 H (𝓣 .C) (𝓣 .Λ) f.Code.function (v ∷ vint w64 at ∷ []) Post)
   walk =
-      qed W ((‵ (flft κ q) ⊛ ‵ ftrue) ∷ ‵ (owns (MutSlice (named 0) κ u8 ∷ usize ∷ []) (x, (at, tt)) (v ∷ [], (vint w64 at ∷ [], tt))) ∷ []) ∵
-      split ! $ move ! (2 ∷ []) $ fsplit ! $ keep ! (0 ∷ 2 ∷ []) $
+      handed W (MutSlice (named 0) κ u8) (usize ∷ []) κ q x (v ∷ []) (at, tt) (vint w64 at ∷ [], tt) ∵
       enters ! (𝓣 .C) (𝓣 .Λ) f.Code.function (v ∷ vint w64 at ∷ []) Post (λ bs. params1 ! $
       pass1 ! (init ! buffer-at refl (tt, (tt, (record { fits = room .0 }, tt)))) $ pass1 ! (init ! from-at refl (word at-fits)) $ pass0 ! $ begins bs)
 
@@ -181,10 +178,6 @@ write-two-spec 𝓤 H 𝓜 𝓖 𝓡 =
     (f.clauses 𝓤 H (𝓖 .A) (𝓜 .mem) (𝓡 .run)) f.Key.name f.Code.function (f.Code.unfolded 𝓤 H 𝓜 𝓡) (λ κs. (slice-vals, (uint-vals w64, tt)))
     (λ κs. (mut-slice-tells (named 0) (κs .0) u8, (uint-tells w64, tt)))
     (λ κs qs bounds a g are. via 𝓤 _ (fst∗ 𝓤 _ (emp 𝓤)) (walk 𝓤 H (𝓖 .A) (givenOf 𝓤 H 𝓜 𝓖) (𝓜 .mem) (𝓡 .run) (tablesAt 𝓤 H 𝓜 𝓡 f.Code.env)
-    (cited 𝓤 H (Callee 𝓤 H (𝓖 .A) steps.ended
-    (steps.clauses 𝓤 H (𝓖 .A) (𝓜 .mem) (𝓡 .run))) 𝓜 𝓡 f.Code.env steps.Symbol.name steps.Symbol.routine f.Code.calls-encoding·put-and-look-up
-    (steps.Met.met 𝓤 H 𝓜 𝓖 𝓡))
-    (cited 𝓤 H (Callee 𝓤 H (𝓖 .A) write-log.ended
-    (write-log.clauses 𝓤 H (𝓖 .A) (𝓜 .mem) (𝓡 .run))) 𝓜 𝓡 f.Code.env write-log.Symbol.name write-log.Symbol.routine f.Code.calls-steplog·write-log
-    (write-log.Met.met 𝓤 H 𝓜 𝓖 𝓡))
+    (cited 𝓤 H _ 𝓜 𝓡 f.Code.env steps.Symbol.name _ f.Code.calls-encoding·put-and-look-up (steps.Met.met 𝓤 H 𝓜 𝓖 𝓡))
+    (cited 𝓤 H _ 𝓜 𝓡 f.Code.env write-log.Symbol.name _ f.Code.calls-steplog·write-log (write-log.Met.met 𝓤 H 𝓜 𝓖 𝓡))
     (κs .0) (qs .0) (a .0) (a .1 .0) (are .0 .0 .1) (are .1 .0 .1)))

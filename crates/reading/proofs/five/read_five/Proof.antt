@@ -23,17 +23,14 @@ use Rattle.steplog.proofs.reader.Reader as T
 use Rattle.steplog.proofs.reading.Record as E
 use Rattle.steplog.proofs.open as opening
 use Rattle.steplog.proofs.next as next
-use Rattle.walks.proofs.Walks.{URA, named, erased, w64, Val, vint, vptr, SProp, ent, emp, via, fst∗, id⊢, Lft, Share, Fml, ftrue, flft, Memory, Routine}
-use Rattle.walks.proofs.Walks.{Heap, Env, WpFn, Tables, Atoms, Fun, givenOf, tablesOf, Given, Item, ‵, _⊛_, ⋆, runs, atRet, Sq, _$_, _∵_, !, qed, by}
-use Rattle.walks.proofs.Walks.{move, drop, use1, split, join, fsplit, fjoin, keep, suffices, frame, done, look, init, stop, from, lit, addr, agg, of-opd}
-use Rattle.walks.proofs.Walks.{and-then, no-more, returns}
-use Rattle.walks.proofs.Walks.{params1, pass1, pass0, RattleType, owns, Is, u8, usize, RefT, NamedLft, plain, sliceVal, ShrSlice, Room, slice-vals, shows}
-use Rattle.walks.proofs.Walks.{peeks, owned}
-use Rattle.walks.proofs.Walks.{shr-slice-tells, nothing, own-shut, onEntry, Triple, cited, says, Stays, stay-none-slice, walkOf, goes-none-slice, ends-at, yes}
-use Rattle.walks.proofs.Walks.{Plain, of-struct, of-word, word, Blocks, spots, locals, enters, frees-all, filled, empty, get, get-field, sets, lands-in}
-use Rattle.walks.proofs.Walks.{tablesAt, met-by}
+use Rattle.walks.proofs.Walks.{URA, named, erased, w64, Val, vint, vptr, SProp, ent, emp, via, fst∗, id⊢, Lft, Share, Fml, flft, Memory, Routine, Heap, Env}
+use Rattle.walks.proofs.Walks.{WpFn, Tables, Atoms, Fun, givenOf, tablesOf, Given, Item, ‵, ⋆, runs, atRet, Sq, _$_, _∵_, !, qed, by, move, drop, use1, fjoin}
+use Rattle.walks.proofs.Walks.{keep, suffices, look, init, stop, from, lit, addr, agg, of-opd, and-then, no-more, returns, params1, pass1, pass0, RattleType}
+use Rattle.walks.proofs.Walks.{Is, u8, usize, RefT, NamedLft, plain, sliceVal, ShrSlice, Room, slice-vals, shows, peeks, shr-slice-tells, own-shut, onEntry}
+use Rattle.walks.proofs.Walks.{Triple, cited, says, Stays, stay-none-slice, walkOf, goes-none-slice, ends-at, yes, Plain, of-struct, of-word, word, Blocks}
+use Rattle.walks.proofs.Walks.{spots, locals, enters, frees-all, filled, empty, get, get-field, sets, lands-in, tablesAt, met-by}
 use Rattle.walks.proofs.Calling.{Callee, calls-on, owned-all, told-by, token-in, token-out}
-use Rattle.walks.proofs.Lending.{slice-twice}
+use Rattle.walks.proofs.Lending.{handed, hands-back, slice-twice}
 use Rattle.reading.specs.declared.five.Five.{Five}
 use Rattle.reading.proofs.five.Five as F
 use Rattle.reading.proofs.five.read_five as f
@@ -148,8 +145,7 @@ module _ {M : Type 1} (𝓤 : URA M) (H : Heap 𝓤) (A : Atoms 𝓤) (W : Given
   exits : Is F.the-row five (fiveVal ∷ []) → ent 𝓤 (⋆ 𝓤 H A Owned) (Post fiveVal)
   exits is =
       qed W Owned ∵ suffices ! _ (ends-at 𝓤 H A f.ended stayed (f.clauses 𝓤 H A mem run) W bound fiveVal five (tt, tt) (tt, tt)) $ says ! refl $
-      nothing ! $ move ! (2 ∷ 0 ∷ []) $ join ! $ frame ! $ nothing ! $ move ! (1 ∷ 0 ∷ []) $ fjoin ! $ frame ! $
-      owned ! F.the-row (Is F.the-row) (five-laws .makes) five _ is $ done !
+      hands-back W (ShrSlice (named 0) κ u8) [] κ q x (v ∷ []) tt tt tt tt F.the-row (five-laws .makes) five _ is
 
   opens-at-0 : record { log = x; at = 0 } ≡ readerAt 0
   unfolding readerPlace
@@ -239,8 +235,7 @@ module _ {M : Type 1} (𝓤 : URA M) (H : Heap 𝓤) (A : Atoms 𝓤) (W : Given
 
   walk : ent 𝓤 (onEntry 𝓤 H A f.signature (κ, tt) (q, tt) (x, tt) (v ∷ [], tt)) (WpFn 𝓤 H (𝓣 .C) (𝓣 .Λ) f.Code.function (v ∷ []) Post)
   walk =
-      qed W ((‵ (flft κ q) ⊛ ‵ ftrue) ∷ ‵ (owns (ShrSlice (named 0) κ u8 ∷ []) (x, tt) (v ∷ [], tt)) ∷ []) ∵
-      split ! $ move ! (2 ∷ []) $ fsplit ! $ keep ! (0 ∷ 2 ∷ []) $
+      handed W (ShrSlice (named 0) κ u8) [] κ q x (v ∷ []) tt tt ∵
       enters ! (𝓣 .C) (𝓣 .Λ) f.Code.function (v ∷ []) Post (λ bs. params1 ! $
       pass1 ! (init ! log-at refl (tt, (tt, (record { fits = room .0 }, tt)))) $ pass0 ! $ begins bs)
 
@@ -251,8 +246,6 @@ read-five-spec 𝓤 H 𝓜 𝓖 𝓡 =
     (f.clauses 𝓤 H (𝓖 .A) (𝓜 .mem) (𝓡 .run)) f.Key.name f.Code.function (f.Code.unfolded 𝓤 H 𝓜 𝓡)
     (λ κs. (slice-vals, tt)) (λ κs. (shr-slice-tells (named 0) (κs .0) u8, tt))
     (λ κs qs bounds a g are. via 𝓤 _ (fst∗ 𝓤 _ (emp 𝓤)) (walk 𝓤 H (𝓖 .A) (givenOf 𝓤 H 𝓜 𝓖) (𝓜 .mem) (𝓡 .run) (tablesAt 𝓤 H 𝓜 𝓡 f.Code.env)
-    (cited 𝓤 H (Callee 𝓤 H (𝓖 .A) opening.ended (opening.clauses 𝓤 H (𝓖 .A) (𝓜 .mem) (𝓡 .run))) 𝓜 𝓡 f.Code.env
-    opening.Symbol.name opening.Symbol.routine f.Code.calls-steplog·open (opening.Met.met 𝓤 H 𝓜 𝓖 𝓡))
-    (cited 𝓤 H (Callee 𝓤 H (𝓖 .A) next.ended (next.clauses 𝓤 H (𝓖 .A) (𝓜 .mem) (𝓡 .run))) 𝓜 𝓡 f.Code.env
-    next.Symbol.name next.Symbol.routine f.Code.calls-steplog·next (next.Met.met 𝓤 H 𝓜 𝓖 𝓡))
+    (cited 𝓤 H _ 𝓜 𝓡 f.Code.env opening.Symbol.name _ f.Code.calls-steplog·open (opening.Met.met 𝓤 H 𝓜 𝓖 𝓡))
+    (cited 𝓤 H _ 𝓜 𝓡 f.Code.env next.Symbol.name _ f.Code.calls-steplog·next (next.Met.met 𝓤 H 𝓜 𝓖 𝓡))
     (κs .0) (qs .0) (a .0) (are .0 .0 .1)))
