@@ -9,15 +9,21 @@ text=crates/replay/stdout
 dir=$(mktemp -d) || { echo 'tests/replay.sh: no temporary directory'; exit 1; }
 trap 'rm -rf "$dir"' EXIT
 
-# Runs the program on standard input.
+# Runs the program on standard input. Its exit status is kept in a file, since a pipe's last command is run in a shell of its own.
 run() {
     target/bin/replay >"$dir/out" 2>"$dir/err"
+    echo "$?" >"$dir/status"
 }
 
-# Case $1: standard output and standard error are the files `expected` and `expected_err`.
+# Case $1: standard output and standard error are the files `expected` and `expected_err`, and the exit status is 0, on a read error too.
 expect() {
     if ! cmp -s "$dir/out" "$dir/expected" || ! cmp -s "$dir/err" "$dir/expected_err"; then
         echo "tests/replay.sh: $1: the program did not print what it should"
+        exit 1
+    fi
+    status=$(cat "$dir/status")
+    if [ "$status" != 0 ]; then
+        echo "tests/replay.sh: $1: the program's exit status is $status and should be 0"
         exit 1
     fi
 }

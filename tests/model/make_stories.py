@@ -1,13 +1,13 @@
 #!/usr/bin/env python3
-"""Write what the programs stories, calls, encoding, tables and out_of_range
-have to print.
+"""Write what the programs stories, calls, encoding, reading, tables and
+out_of_range have to print.
 
     python3 tests/model/make_stories.py CRATES
 
 CRATES is the folder of the crates: each program's file ``stdout`` there is
-written anew, always the same. Stories and tables are built here a second
-time, from steps and from the model's own tables, and nothing is taken from
-the programs.
+written anew, always the same. Stories, logs and tables are built here a
+second time, from steps and from the model's own tables, and nothing is taken
+from the programs.
 """
 
 from __future__ import annotations
@@ -27,16 +27,19 @@ from table_model import (
     Action,
     Answer,
     Instant,
+    Malformed,
     Operation,
     Phase,
     Put,
     Remove,
     State,
     Step,
+    Stop,
     Table,
     Writer,
     encode,
     encode_number,
+    read_record,
     run_log,
     write_log,
 )
@@ -346,7 +349,7 @@ def traces() -> Iterator[str]:
     )
 
 
-# --- The programs calls and encoding -----------------------------------------
+# --- The programs calls, encoding and reading --------------------------------
 
 
 def calls() -> Iterator[str]:
@@ -403,17 +406,60 @@ def calls() -> Iterator[str]:
 def encoding() -> Iterator[str]:
     """What the log writer and the number writer store."""
     yield "== The log writer"
-    for place in (13, 6, 3):
+    for place in (13, 12, 5, 4, 3):
         buffer = bytearray(b"\xff" * 12)
         answer, count = write_log(through(0, Put(1, 300, 2), LOOK_UP), buffer, place)
         yield written(f"place {place} of 12", answer, count, buffer)
 
     yield "== The number writer"
-    for number, room in ((0, 0), (300, 1), (300, 2), (MAX_NUMBER, 4), (MAX_NUMBER, 6)):
+    five_bytes = [(MAX_NUMBER, room) for room in (4, 5, 6)]
+    for number, room in ((0, 0), (0, 1), (300, 1), (300, 2), *five_bytes):
         buffer, code = bytearray(b"\xff" * room), encode_number(number)
         count = len(code) if len(code) <= room else 0
         buffer[:count] = code[:count]
         yield written(f"{number} into {room}", 0, count, buffer)
+
+
+def action_text(action: Operation | Action) -> str:
+    """What a step does, in words, and an operation's numbers."""
+    if isinstance(action, Action):
+        return action.name.lower().replace("_", " ")
+    return numbers("put" if isinstance(action, Put) else "remove", action)
+
+
+def read_on(log: bytes, place: int) -> tuple[str, int]:
+    """What a reader at a place gives, and its place then; at a stop it stays."""
+    if place == len(log):
+        return f"stop {Stop.USED_UP:d}", place
+    try:
+        (writer, action), behind = read_record(log, place)
+    except Malformed as malformed:
+        return f"stop {malformed.stop:d}", place
+    return f"writer {writer} {action_text(action)}, next at {behind}", behind
+
+
+def reading() -> Iterator[str]:
+    """What a reader that is kept gives, asked five times."""
+    look_up, put = step(0, LOOK_UP), Put(1, 300, 2)
+    no_such_kind = encode_number(0) + encode_number(10)
+    removed = step(7, Remove(99)) + step(0, GIVE_UP) + step(10, COMMIT)
+    cut = encode(step(0, Put(99, 0, 0)))[:-2]
+    for title, log in (
+        (
+            "A put, a look up, and a record of kind 10",
+            encode(step(0, put) + look_up) + no_such_kind + encode(look_up),
+        ),
+        ("A remove, a give up and a commit, to the log's end", encode(removed)),
+        ("A read, and a put that is cut short", encode(step(0, READ)) + cut),
+        ("A writer longer than needed", b"\x80" + encode(look_up)),
+        ("No records", b""),
+    ):
+        yield f"== {title}"
+        place = 0
+        for _ in range(5):
+            line, place = read_on(log, place)
+            yield line
+        yield f"reader at {place}"
 
 
 # --- The programs tables and out_of_range ------------------------------------
@@ -593,8 +639,8 @@ def grounds() -> Iterator[str]:
     def changed(**fields) -> Table:
         return replace(largest(), **fields)
 
-    def off(**fields) -> Table:
-        table = largest()
+    def off(last: int = MAX_TIMESTAMP, **fields) -> Table:
+        table = largest(last)
         table.writers[-1] = replace(table.writers[-1], **fields)
         return table
 
@@ -611,14 +657,23 @@ def grounds() -> Iterator[str]:
     yield from tried("17: group of an instant", group_8)
     yield from tried("17: instant above the last timestamp", above)
     yield from tried("17: phase", off(phase=7))
-    yield from tried("17: key", off(operation=put._replace(key=KEYS)))
-    group = off(operation=put._replace(group=GROUPS), group=GROUPS)
-    yield from tried("17: group", group)
-    yield from tried("17: timestamp", off(timestamp=MAX_TIMESTAMP + 1))
-    yield from tried("17: base", off(base=MAX_TIMESTAMP + 1))
+    key = {"operation": put._replace(key=KEYS)}
+    group = {"operation": put._replace(group=GROUPS), "group": GROUPS}
+    yield from tried("17: key", off(**key))
+    yield from tried("17: group", off(**group))
+    last = MAX_TIMESTAMP - 1
+    yield from tried(f"17: no ground, last timestamp {last}", off(last))
+    yield from tried("17: timestamp", off(last, timestamp=last + 1))
+    yield from tried("17: base", off(last, base=last + 1))
     yield from tried("17: timestamp 0", off(timestamp=0))
-    ready = off(timestamp=0, phase=Phase.READY)
-    yield from tried("17: no ground, timestamp 0 at phase 0", ready)
+    no_timestamp = off(phase=Phase.READY, timestamp=0)
+    yield from tried("17: no ground, timestamp 0 at phase 0", no_timestamp)
+    yield from tried("17: key at phase 0", off(phase=Phase.READY, **key))
+    yield from tried("17: group at phase 0", off(phase=Phase.READY, **group))
+    timestamp = off(last, phase=Phase.READY, timestamp=last + 1)
+    yield from tried("17: timestamp at phase 0", timestamp)
+    base = off(last, phase=Phase.READY, base=last + 1)
+    yield from tried("17: base at phase 0", base)
 
     yield "== Out of range"
     table = Table(MAX_TIMESTAMP + 1)
@@ -635,6 +690,7 @@ PROGRAMS = {
     "stories": (examples, traces),
     "calls": (calls,),
     "encoding": (encoding,),
+    "reading": (reading,),
     "tables": (hand_set,),
     "out_of_range": (grounds,),
 }

@@ -41,11 +41,13 @@ fn write_printed(label: &[u8], at: usize) {
     report::written(label, written.answer, written.count, &buffer);
 }
 
-// Into a buffer of twelve bytes: past its end, where eight bytes don't fit, and where they do.
+// Eight bytes into a buffer of twelve: past its end, at its end, one byte short of a fit, an exact fit, and with a byte to spare.
 fn log_writer() {
     report::title(b"The log writer");
     write_printed(b"place 13 of 12", 13);
-    write_printed(b"place 6 of 12", 6);
+    write_printed(b"place 12 of 12", 12);
+    write_printed(b"place 5 of 12", 5);
+    write_printed(b"place 4 of 12", 4);
     write_printed(b"place 3 of 12", 3);
 }
 
@@ -55,13 +57,15 @@ fn encode_printed(label: &[u8], number: Word, buffer: &mut [u8]) {
     report::written(label, 0, size, buffer);
 }
 
-// Into buffers that have no room for the code, just enough, and more.
+// Into buffers that are one byte short of the code, that fit exactly, and with a byte to spare.
 fn number_writer() {
     report::title(b"The number writer");
     encode_printed(b"0 into 0", 0, &mut [255; 0]);
+    encode_printed(b"0 into 1", 0, &mut [255; 1]);
     encode_printed(b"300 into 1", 300, &mut [255; 1]);
     encode_printed(b"300 into 2", 300, &mut [255; 2]);
     encode_printed(b"4294967295 into 4", u32::MAX, &mut [255; 4]);
+    encode_printed(b"4294967295 into 5", u32::MAX, &mut [255; 5]);
     encode_printed(b"4294967295 into 6", u32::MAX, &mut [255; 6]);
 }
 

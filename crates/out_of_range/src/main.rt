@@ -3,6 +3,7 @@ use model::Table;
 use model::Value;
 use model::Writer;
 use model::instants::COMPLETED;
+use model::instants::NONE;
 use model::instants::REQUESTED;
 use model::limits::GROUPS;
 use model::limits::KEYS;
@@ -127,6 +128,18 @@ fn with_writer(x: Writer) -> Table {
     )
 }
 
+// The same with the last timestamp 63: timestamp 64 has no instant, and is out of range though a table may issue it.
+fn at_63_with_writer(x: Writer) -> Table {
+    table_of(
+        LAST - 1,
+        LOCK,
+        ENTRY,
+        NONE,
+        x,
+        writer(6, KEY, GROUP, LAST - 1, LAST - 1),
+    )
+}
+
 fn of_a_writer() {
     tried(b"17: phase", with_writer(writer(7, KEY, GROUP, LAST, LAST)));
     tried(
@@ -138,12 +151,16 @@ fn of_a_writer() {
         with_writer(writer(6, KEY, GROUP + 1, LAST, LAST)),
     );
     tried(
+        b"17: no ground, last timestamp 63",
+        at_63_with_writer(writer(6, KEY, GROUP, LAST - 1, LAST - 1)),
+    );
+    tried(
         b"17: timestamp",
-        with_writer(writer(6, KEY, GROUP, LAST + 1, LAST)),
+        at_63_with_writer(writer(6, KEY, GROUP, LAST, LAST - 1)),
     );
     tried(
         b"17: base",
-        with_writer(writer(6, KEY, GROUP, LAST, LAST + 1)),
+        at_63_with_writer(writer(6, KEY, GROUP, LAST - 1, LAST)),
     );
     tried(
         b"17: timestamp 0",
@@ -152,6 +169,26 @@ fn of_a_writer() {
     tried(
         b"17: no ground, timestamp 0 at phase 0",
         with_writer(writer(0, KEY, GROUP, 0, LAST)),
+    );
+}
+
+// A ready writer's numbers have the same limits.
+fn of_a_ready_writer() {
+    tried(
+        b"17: key at phase 0",
+        with_writer(writer(0, KEY + 1, GROUP, LAST, LAST)),
+    );
+    tried(
+        b"17: group at phase 0",
+        with_writer(writer(0, KEY, GROUP + 1, LAST, LAST)),
+    );
+    tried(
+        b"17: timestamp at phase 0",
+        at_63_with_writer(writer(0, KEY, GROUP, LAST, LAST - 1)),
+    );
+    tried(
+        b"17: base at phase 0",
+        at_63_with_writer(writer(0, KEY, GROUP, LAST - 1, LAST)),
     );
 }
 
@@ -185,5 +222,6 @@ fn back_in_range() {
 fn main() {
     of_the_table();
     of_a_writer();
+    of_a_ready_writer();
     back_in_range();
 }
