@@ -41,11 +41,13 @@ fn write_printed(label: &[u8], at: usize) {
     report::written(label, written.answer, written.count, &buffer);
 }
 
-// Into a buffer of twelve bytes: past its end, where eight bytes don't fit, and where they do.
+// Into a buffer of twelve bytes: past its end, at its end and before it where eight bytes don't fit, and where they do.
 fn log_writer() {
     report::title(b"The log writer");
     write_printed(b"place 13 of 12", 13);
-    write_printed(b"place 6 of 12", 6);
+    write_printed(b"place 12 of 12", 12);
+    write_printed(b"place 5 of 12", 5);
+    write_printed(b"place 4 of 12", 4);
     write_printed(b"place 3 of 12", 3);
 }
 
