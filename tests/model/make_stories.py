@@ -270,7 +270,13 @@ def traces() -> Iterator[str]:
     )
     yield from story("P8", 1, 1, ("remove", through(0, Remove(5), LOOK_UP)))
     starts = step(8, Put(1, 10, 1)) + step(8, Put(32, 10, 1))
-    yield from story("P9", 0, 1, ("writer 8", starts))
+    low_bytes = step(2**8, Put(1, 10, 1)) + step(0, Put(2**8, 10, 1))
+    low_bytes += step(0, Remove(2**16)) + step(0, Put(1, 10, 2**8))
+    yield from story(
+        "P9", 0, 1,
+        ("writer 8", starts),
+        ("numbers whose lowest byte is in range", low_bytes),
+    )
     yield from story(
         "The order of the refusals", 1, 2,
         (
@@ -361,10 +367,10 @@ def calls() -> Iterator[str]:
     yield from ran(table, "two keys are put, and put again", log, [0] * 28)[0]
     for at, key in ((4, 1), (2, 1), (0, 1), (3, 2), (NEVER_ISSUED, 3)):
         yield point_line(table, at, key)
-    for key in (32, MAX_NUMBER):
+    for key in (32, 2**8 + 1, 2**16 + 1, MAX_NUMBER):
         yield point_line(table, 4, key)
 
-    timestamps = (*range(9), 64, 65, NEVER_ISSUED)
+    timestamps = (*range(9), 64, 65, 2**8 + 3, 2**32 + 3, NEVER_ISSUED)
     table = Table()
     yield "== Instants"
     yield from (instant_line(table, at) for at in timestamps)

@@ -14,6 +14,8 @@ fn point_reads(t: Table, present: &[bool; ROWS], values: &[Value; ROWS]) {
     point_read(t, present, values, 3, 2);
     point_read(t, present, values, u64::MAX, 3);
     point_read(t, present, values, 4, 32);
+    point_read(t, present, values, 4, 257);
+    point_read(t, present, values, 4, 65537);
     point_read(t, present, values, 4, u32::MAX);
 }
 
@@ -53,6 +55,8 @@ fn all_instants(t: Table) {
     instant(t, 8);
     instant(t, 64);
     instant(t, 65);
+    instant(t, 259);
+    instant(t, 4294967299);
     instant(t, u64::MAX);
 }
 

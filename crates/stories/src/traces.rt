@@ -30,9 +30,11 @@ pub fn refusals() {
     let p8 = b"\
         remove:\x00\x02\x05\x00\x03;";
     story(b"P8", p8, 1, 1);
-    // Starts by a writer that does not exist, the second with a key that does not exist either.
+    // Starts by a writer that does not exist, the second with a key that does not exist either. Then starts with the writer 256, the key 256,
+    // the key 65,536 and the group 256.
     let p9 = b"\
-        writer 8:\x08\x01\x01\x0a\x01\x08\x01\x20\x0a\x01;";
+        writer 8:\x08\x01\x01\x0a\x01\x08\x01\x20\x0a\x01;\
+        numbers whose lowest byte is in range:\x80\x02\x01\x01\x0a\x01\x00\x01\x80\x02\x0a\x01\x00\x02\x80\x80\x04\x00\x01\x01\x0a\x80\x02;";
     story(b"P9", p9, 0, 1);
     // Each step has two grounds or more, and gets the answer that comes first; then one ground less. Writer 1 holds the lock.
     let in_order = b"\

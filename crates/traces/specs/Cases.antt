@@ -6,7 +6,7 @@ use mathlib.Core.Option.{Option, none, some}
 use lib.ListN.{getD, replicate}
 use Rattle.leb128.specs.Coding.{encoded, decodedAt, decodedNumbers}
 use Rattle.common.specs.Counting.{listBelow}
-use Rattle.model.specs.State.{Shared, State, rowAt}
+use Rattle.model.specs.State.{Shared, State, fresh, rowAt}
 use Rattle.model.specs.Rules.{entryOf, writerOf, step}
 use Rattle.model.specs.Machine.{answersFrom, commitMachine}
 use Rattle.model.specs.Snapshot.{Listed, scan, pointRead, foundNumbers, instantAt, instantNumbers}
@@ -18,10 +18,16 @@ use Rattle.model.specs.declared.Operation.the-variants.{Put, Remove}
 use Rattle.model.specs.declared.Action.{Action}
 use Rattle.model.specs.declared.Action.the-variants.{Start, LookUp, Read, Write, Index, Check, Commit, Abort}
 use Rattle.model.specs.declared.Step.{Step}
+use Rattle.steplog.specs.Records.{recordAt, recordNumbers}
+use Rattle.steplog.specs.Writing.{LogWritten, logWritten}
+use Rattle.run.specs.Runs.{Input, Run, runOf}
 
 pub data Case : Type 0 where
   encode : ℕ → Case  -- a number
-  decode : List ℕ → Case  -- bytes, from their start
+  decode : List ℕ → ℕ → Case  -- the number at a place of bytes
+  readRecord : List ℕ → ℕ → Case  -- the record at a place of a log
+  written : List Step → ℕ → ℕ → Case  -- the log of steps, written into so many bytes, each 99, from a place on
+  ran : Input → ℕ → Case  -- a run from a fresh table, with so many places for answers, each 99
   answers : State → List Step → Case  -- the answers to steps on a table
   eachAnswer : State → Case  -- the answers to each action of writer 0, all on the same table
   scanned : State → List Step → ℕ → ℕ → Case  -- a scan after steps on a table, at a timestamp, with room for so many numbers, each 99
@@ -33,6 +39,14 @@ pub data Case : Type 0 where
   history : List Step → Case  -- the history of steps on a fresh table
   stored : List Step → ℕ → ℕ → Case  -- what the write steps among steps on a fresh table stored under a timestamp, of a key
   judged : State → Case  -- a step of writer 8, a read of key 32, a scan with too little room, and the instant of timestamp 1
+
+-- the answer of the log writer, its byte count and the buffer
+abbrev pub writtenNumbers : LogWritten → List ℕ
+writtenNumbers l = l .answer ∷ l .count ∷ l .buffer
+
+-- the stop of a run, the count of records taken, the offset of the first one not taken, and the lent answers
+abbrev pub runNumbers : Run State → List ℕ
+runNumbers r = r .stop ∷ r .count ∷ r .offset ∷ r .answers
 
 -- the answer of a scan, its row count and the lent numbers
 abbrev pub listedNumbers : Listed → List ℕ
@@ -102,7 +116,10 @@ actions = Start (Put 0 10 0) ∷ LookUp ∷ Read ∷ Write ∷ Index ∷ Check �
 -- what the definitions give
 unfoldable pub result : Case → List ℕ
 result (encode n) = encoded n
-result (decode bytes) = decodedNumbers (decodedAt bytes 0)
+result (decode bytes at) = decodedNumbers (decodedAt bytes at)
+result (readRecord log at) = recordNumbers (recordAt log at)
+result (written ss room at) = writtenNumbers (logWritten ss (replicate room 99) at)
+result (ran input places) = runNumbers (runOf input fresh (replicate places 99))
 result (answers st ss) = answersFrom commitMachine st ss
 result (eachAnswer st) = map (λ a. step st (does 0 a) .answer) actions
 result (scanned st ss t room) = listedNumbers (scan (afterSteps st ss) t (replicate room 99))

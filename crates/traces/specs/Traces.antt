@@ -1,12 +1,14 @@
 -- What the definitions give, in one table with one claim about all of it: document 01's traces (Traces to hold it to) that are marked P, and cases for
--- what no law of the whole table says: histories, instants, the grounds of 17 one by one, the refusals in their order, tables that no run reaches.
+-- what no law of the whole table says: the stops of numbers and records, the log writer's refusals, histories, instants, the grounds of 17 one by one,
+-- the refusals in their order, tables that no run reaches.
 use Prim.Native.Nat.{ℕ, _-_}
 use mathlib.Core.Path.{_≡_, refl}
 use mathlib.Core.Bool.{true, false}
-use mathlib.Core.List.{List, [], _∷_, _++_, map}
+use mathlib.Core.List.{List, [], _∷_, _++_, flatten, map}
 use lib.ListN.{length, replicate, set, take}
 use Rattle.leb128.specs.Coding.{encodedIn, encoded, decodedIn, decodedAt, decodedNumbers}
 use Rattle.common.specs.Counting.{upd, eachBelow, listBelow}
+use Rattle.common.specs.Pasting.{pasted}
 use Rattle.model.specs.State.{Shared, State, ready, fresh, requested, inflight, completed, newest, rowAt, cell}
 use Rattle.model.specs.State.{withLast, withLock, withIndex, withTimeline, withPresent, withValues}
 use Rattle.model.specs.Range.{inRange, writersInRange, indexInRange, instantsInRange, noneAbove}
@@ -21,7 +23,10 @@ use Rattle.model.specs.declared.Operation.{Operation}
 use Rattle.model.specs.declared.Operation.the-variants.{Put, Remove}
 use Rattle.model.specs.declared.Action.the-variants.{Start, LookUp, Read, Write, Index, Check, Commit, Abort}
 use Rattle.model.specs.declared.Step.{Step}
-use Rattle.traces.specs.Cases.{Case, encode, decode, answers, eachAnswer, scanned, read, stands}
+use Rattle.steplog.specs.Records.{encodedStep, ofKind, argumentsBy, recordBy, recordNumbers}
+use Rattle.steplog.specs.Writing.{logWritten}
+use Rattle.run.specs.Runs.{ofLog, ofList, runFrom, runOf}
+use Rattle.traces.specs.Cases.{Case, encode, decode, readRecord, written, ran, answers, eachAnswer, scanned, read, stands}
 use Rattle.traces.specs.Cases.{place, rows, instants, history, stored, judged}
 use Rattle.traces.specs.Cases.{writerNumbers, pendingOperation, committedOperation, does, result, Trace, _gives_}
 
@@ -77,6 +82,21 @@ putAndRemove = whole 0 (Put 1 10 1) ++ whole 3 (Put 1 11 5) ++ whole 3 (Remove 1
 -- a put in a group that has a commit
 abbrev secondPut : List Step
 secondPut = whole 0 (Put 5 10 3) ++ whole 2 (Put 6 55 3)
+
+-- a step of each kind, and their log
+abbrev everyKind : List Step
+everyKind =
+    does 0 (Start (Put 1 300 2)) ∷ does 1 (Start (Remove 99))
+    ∷ map (does 2) (LookUp ∷ Read ∷ Write ∷ Index ∷ Check ∷ Commit ∷ Abort ∷ [])
+
+abbrev everyKindLog : List ℕ
+everyKindLog =
+    0x00 ∷ 0x01 ∷ 0x01 ∷ 0xAC ∷ 0x02 ∷ 0x02 ∷ 0x01 ∷ 0x02 ∷ 0x63 ∷ 0x02 ∷ 0x03 ∷ 0x02 ∷ 0x04 ∷ 0x02 ∷ 0x05 ∷ 0x02 ∷ 0x06 ∷ 0x02 ∷ 0x07
+    ∷ 0x02 ∷ 0x08 ∷ 0x02 ∷ 0x09 ∷ []
+
+-- a look up, then a record whose kind is none
+abbrev badKindLog : List ℕ
+badKindLog = 0x00 ∷ 0x03 ∷ 0x00 ∷ 0x0A ∷ []
 
 -- Tables that no run reaches.
 
@@ -195,9 +215,44 @@ traces =
     ∷ (encode 16383 gives 0xFF ∷ 0x7F ∷ [])
     ∷ (encode 16384 gives 0x80 ∷ 0x80 ∷ 0x01 ∷ [])
     ∷ (encode 4294967295 gives 0xFF ∷ 0xFF ∷ 0xFF ∷ 0xFF ∷ 0x0F ∷ [])
-    ∷ (decode (0x80 ∷ 0x00 ∷ []) gives 21 ∷ [])
-    ∷ (decode (0xFF ∷ 0xFF ∷ 0xFF ∷ 0xFF ∷ 0x10 ∷ []) gives 22 ∷ [])
-    ∷ (decode (0x80 ∷ []) gives 20 ∷ [])
+    ∷ (decode (0x80 ∷ 0x00 ∷ []) 0 gives 21 ∷ [])
+    ∷ (decode (0xFF ∷ 0xFF ∷ 0xFF ∷ 0xFF ∷ 0x10 ∷ []) 0 gives 22 ∷ [])
+    ∷ (decode (0x80 ∷ []) 0 gives 20 ∷ [])
+    -- numbers read, with the place behind them; the stops at a fifth byte; at the end of the bytes and past it
+    ∷ (decode (0xFF ∷ 0xFF ∷ 0xFF ∷ 0xFF ∷ 0x0F ∷ 0x00 ∷ []) 0 gives 0 ∷ 4294967295 ∷ 5 ∷ [])
+    ∷ (decode (0x80 ∷ 0x01 ∷ 0x00 ∷ []) 2 gives 0 ∷ 0 ∷ 3 ∷ [])
+    ∷ (decode (0x80 ∷ 0x80 ∷ 0x80 ∷ 0x80 ∷ 0x00 ∷ []) 0 gives 21 ∷ [])
+    ∷ (decode (0x80 ∷ 0x80 ∷ 0x80 ∷ 0x80 ∷ 0x80 ∷ 0x00 ∷ []) 0 gives 22 ∷ [])
+    ∷ (decode (0xFF ∷ 0xFF ∷ 0xFF ∷ 0xFF ∷ []) 0 gives 20 ∷ [])
+    ∷ (decode (0x00 ∷ []) 1 gives 20 ∷ [])
+    ∷ (decode (0x00 ∷ []) 2 gives 20 ∷ [])
+    -- records: the place behind them and their numbers; the end of the log and past it; a kind that is none, with nothing behind it
+    ∷ (readRecord everyKindLog 0 gives 0 ∷ 6 ∷ 0 ∷ 1 ∷ 1 ∷ 300 ∷ 2 ∷ [])
+    ∷ (readRecord everyKindLog 6 gives 0 ∷ 9 ∷ 1 ∷ 2 ∷ 99 ∷ [])
+    ∷ (readRecord everyKindLog 21 gives 0 ∷ 23 ∷ 2 ∷ 9 ∷ [])
+    ∷ (readRecord everyKindLog 23 gives 0 ∷ [])
+    ∷ (readRecord everyKindLog 24 gives 0 ∷ [])
+    ∷ (readRecord badKindLog 2 gives 23 ∷ [])
+    ∷ (readRecord (0x00 ∷ 0x00 ∷ []) 0 gives 23 ∷ [])
+    ∷ (readRecord (0x00 ∷ 0x02 ∷ []) 0 gives 20 ∷ [])
+    -- logs written: each kind; a log that just fits, and no step; no room, at the end too; past the end, with no step too
+    ∷ (written everyKind 26 2 gives 0 ∷ 23 ∷ 99 ∷ 99 ∷ everyKindLog ++ 99 ∷ [])
+    ∷ (written (does 0 LookUp ∷ []) 3 1 gives 0 ∷ 2 ∷ 99 ∷ 0x00 ∷ 0x03 ∷ [])
+    ∷ (written [] 3 3 gives 0 ∷ 0 ∷ 99 ∷ 99 ∷ 99 ∷ [])
+    ∷ (written (does 0 LookUp ∷ []) 3 2 gives 26 ∷ 0 ∷ 99 ∷ 99 ∷ 99 ∷ [])
+    ∷ (written (does 0 LookUp ∷ []) 3 3 gives 26 ∷ 0 ∷ 99 ∷ 99 ∷ 99 ∷ [])
+    ∷ (written (does 0 LookUp ∷ []) 3 4 gives 27 ∷ 0 ∷ 99 ∷ 99 ∷ 99 ∷ [])
+    ∷ (written [] 3 4 gives 27 ∷ 0 ∷ 99 ∷ 99 ∷ 99 ∷ [])
+    -- runs over a log and over a list: to the end, with a place left and with just enough; no place; a record that is refused, with a place and without
+    ∷ (ran (ofLog everyKindLog) 10 gives 0 ∷ 9 ∷ 23 ∷ 0 ∷ 12 ∷ 14 ∷ 14 ∷ 14 ∷ 14 ∷ 14 ∷ 14 ∷ 14 ∷ 99 ∷ [])
+    ∷ (ran (ofLog everyKindLog) 1 gives 24 ∷ 1 ∷ 6 ∷ 0 ∷ [])
+    ∷ (ran (ofLog badKindLog) 2 gives 23 ∷ 1 ∷ 2 ∷ 14 ∷ 99 ∷ [])
+    ∷ (ran (ofLog badKindLog) 1 gives 24 ∷ 1 ∷ 2 ∷ 14 ∷ [])
+    ∷ (ran (ofLog []) 0 gives 0 ∷ 0 ∷ 0 ∷ [])
+    ∷ (ran (ofList everyKind) 10 gives 0 ∷ 9 ∷ 9 ∷ 0 ∷ 12 ∷ 14 ∷ 14 ∷ 14 ∷ 14 ∷ 14 ∷ 14 ∷ 14 ∷ 99 ∷ [])
+    ∷ (ran (ofList everyKind) 9 gives 0 ∷ 9 ∷ 9 ∷ 0 ∷ 12 ∷ 14 ∷ 14 ∷ 14 ∷ 14 ∷ 14 ∷ 14 ∷ 14 ∷ [])
+    ∷ (ran (ofList everyKind) 1 gives 24 ∷ 1 ∷ 1 ∷ 0 ∷ [])
+    ∷ (ran (ofList []) 0 gives 0 ∷ 0 ∷ 0 ∷ [])
     -- answers: P5, also with the commits swapped, to P9; the 64th start and the 65th
     ∷ (answers fresh (p5 0 1) gives 0 ∷ 0 ∷ 0 ∷ 0 ∷ 0 ∷ 0 ∷ 0 ∷ 0 ∷ 0 ∷ 1 ∷ 0 ∷ 0 ∷ 5 ∷ [])
     ∷ (answers fresh (p5 1 0) gives 0 ∷ 0 ∷ 0 ∷ 0 ∷ 0 ∷ 0 ∷ 0 ∷ 0 ∷ 0 ∷ 1 ∷ 0 ∷ 0 ∷ 5 ∷ [])
@@ -212,11 +267,12 @@ traces =
     ∷ (scanned fresh (p10 ++ restOf 0) 3 6 gives 0 ∷ 2 ∷ 1 ∷ 11 ∷ 1 ∷ 2 ∷ 20 ∷ 2 ∷ [])
     ∷ (scanned fresh p10 4 5 gives 31 ∷ 0 ∷ 99 ∷ 99 ∷ 99 ∷ 99 ∷ 99 ∷ [])
     ∷ (scanned fresh p10 4 8 gives 0 ∷ 2 ∷ 1 ∷ 10 ∷ 1 ∷ 2 ∷ 21 ∷ 2 ∷ 99 ∷ 99 ∷ [])
-    -- point reads after P10: at the timestamp before the key's put, at that of its second, at one above the last, and of a key with no row
+    -- point reads after P10: at the timestamp before the key's put, at that of its second, at one above the last, of a key with no row, and of no key
     ∷ (read fresh p10 1 2 gives 0 ∷ 0 ∷ [])
     ∷ (read fresh p10 4 2 gives 0 ∷ 1 ∷ 21 ∷ 2 ∷ [])
     ∷ (read fresh p10 100 1 gives 0 ∷ 1 ∷ 10 ∷ 1 ∷ [])
     ∷ (read fresh p10 4 3 gives 0 ∷ 0 ∷ [])
+    ∷ (read fresh p10 4 257 gives 12 ∷ [])
     -- histories: operations that ended with 5, 4, 3 and 2 and by an abort are not in progress; one in progress; the group is the table's
     ∷ (history (p5 0 1) gives 2 ∷ idle 8 ++ committedOperation 1 0 (Put 0 10 0))
     ∷ (history p6 gives 2 ∷ idle 8 ++ committedOperation 1 0 (Put 1 10 0))
@@ -237,8 +293,8 @@ traces =
     -- instants: none at 0 and above the last; inflight after an ending with 5 and 4, requested after one with 3 and 2; as they are after an abort
     ∷ (instants fresh (p5 0 1) (1 ∷ 2 ∷ []) gives isCompleted 0 ++ isInflight 0)
     ∷ (instants fresh p6 (1 ∷ 2 ∷ []) gives isCompleted 0 ++ isInflight 1)
-    ∷ (instants fresh p7 (0 ∷ 1 ∷ 2 ∷ 3 ∷ 4 ∷ 18446744073709551615 ∷ [])
-    gives isNone ++ isCompleted 0 ++ isRequested ++ isCompleted 0 ++ isNone ++ isNone)
+    ∷ (instants fresh p7 (0 ∷ 1 ∷ 2 ∷ 3 ∷ 4 ∷ 257 ∷ 65537 ∷ 4294967297 ∷ 18446744073709551615 ∷ [])
+    gives isNone ++ isCompleted 0 ++ isRequested ++ isCompleted 0 ++ isNone ++ isNone ++ isNone ++ isNone ++ isNone)
     ∷ (instants fresh p8 (1 ∷ []) gives isRequested)
     ∷ (instants fresh aborts (1 ∷ 2 ∷ 3 ∷ []) gives isRequested ++ isInflight 5 ++ isRequested)
     ∷ (instants fresh p10 (1 ∷ 2 ∷ 3 ∷ 4 ∷ []) gives isCompleted 1 ++ isCompleted 2 ++ isRequested ++ isCompleted 2)
@@ -290,6 +346,10 @@ traces =
     (does 8 (Start (Put 32 0 8)) ∷ does 1 (Start (Put 32 0 8)) ∷ does 1 (Start (Remove 32)) ∷ does 1 (Start (Put 31 0 8))
     ∷ does 1 (Start (Put 31 0 7)) ∷ does 0 (Start (Put 31 0 7)) ∷ does 1 Index ∷ does 2 Index ∷ [])
     gives 10 ∷ 12 ∷ 12 ∷ 13 ∷ 14 ∷ 15 ∷ 14 ∷ 16 ∷ [])
+    -- writers, keys and groups whose lowest bits name one
+    ∷ (answers fresh
+    (does 256 (Start (Put 0 0 0)) ∷ does 0 (Start (Put 256 0 0)) ∷ does 0 (Start (Remove 65536)) ∷ does 0 (Start (Put 0 0 256)) ∷ [])
+    gives 10 ∷ 12 ∷ 12 ∷ 13 ∷ [])
     -- rows: the first place, one between and the last; a write step stores every row of its slice, absent ones with their value, and no other;
     -- the base is another timestamp, 0, or the writer's own
     ∷ (place 0 1 0 gives 0 ∷ [])
@@ -297,6 +357,7 @@ traces =
     ∷ (place 7 64 31 gives 16383 ∷ [])
     ∷ (rows staleRows (does 0 Write ∷ []) (0 ∷ 1 ∷ 2 ∷ 256 ∷ 257 ∷ 258 ∷ 288 ∷ []) gives
     1 ∷ 10 ∷ 0 ∷ 11 ∷ 1 ∷ 12 ∷ 1 ∷ 10 ∷ 0 ∷ 11 ∷ 0 ∷ 7 ∷ 1 ∷ 14 ∷ [])
+    ∷ (rows (withWriter staleRows 0 (removing 3 2 0 2 1)) (does 0 Write ∷ []) (257 ∷ 258 ∷ []) gives 0 ∷ 11 ∷ 0 ∷ 0 ∷ [])
     ∷ (rows staleRows (does 1 Write ∷ []) (256 ∷ 257 ∷ 288 ∷ 289 ∷ []) gives 0 ∷ 0 ∷ 1 ∷ 13 ∷ 0 ∷ 0 ∷ 1 ∷ 55 ∷ [])
     ∷ (rows (withWriter staleRows 0 (busy 3 2 0 2 2)) (does 0 Write ∷ []) (256 ∷ 257 ∷ 258 ∷ []) gives 0 ∷ 0 ∷ 1 ∷ 13 ∷ 1 ∷ 55 ∷ [])
     -- slices stand by file group and timestamp
@@ -319,13 +380,17 @@ traces =
     -- out of range by one number: the last timestamp; the lock
     ∷ (judged (atLargestBut 64 (λ s. withLast s 65)) gives outOfRangeNumbers)
     ∷ (judged (atLargestBut 63 (λ s. withLock s 9)) gives outOfRangeNumbers)
-    -- of the first writer and of the last: phase, key, group, timestamp, base, timestamp 0 off phase 0
+    -- of the first writer and of the last: phase, key, group, timestamp, base, timestamp 0 off phase 0; key, group, timestamp, base of a ready writer
     ∷ (judged (withWriter (atLargest 63) 0 (busy 7 31 7 63 63)) gives outOfRangeNumbers)
     ∷ (judged (withWriter (atLargest 63) 0 (busy 6 32 7 63 63)) gives outOfRangeNumbers)
     ∷ (judged (withWriter (atLargest 63) 0 (busy 6 31 8 63 63)) gives outOfRangeNumbers)
     ∷ (judged (withWriter (atLargest 63) 0 (busy 6 31 7 64 63)) gives outOfRangeNumbers)
     ∷ (judged (withWriter (atLargest 63) 0 (busy 6 31 7 63 64)) gives outOfRangeNumbers)
     ∷ (judged (withWriter (atLargest 63) 0 (busy 1 31 7 0 63)) gives outOfRangeNumbers)
+    ∷ (judged (withWriter (atLargest 63) 0 (busy 0 32 7 63 63)) gives outOfRangeNumbers)
+    ∷ (judged (withWriter (atLargest 63) 0 (busy 0 31 8 63 63)) gives outOfRangeNumbers)
+    ∷ (judged (withWriter (atLargest 63) 0 (busy 0 31 7 64 63)) gives outOfRangeNumbers)
+    ∷ (judged (withWriter (atLargest 63) 0 (busy 0 31 7 63 64)) gives outOfRangeNumbers)
     ∷ (judged (withWriter (atLargest 63) 7 (busy 7 31 7 63 63)) gives outOfRangeNumbers)
     ∷ (judged (withWriter (atLargest 63) 7 (busy 6 32 7 63 63)) gives outOfRangeNumbers)
     ∷ (judged (withWriter (atLargest 63) 7 (busy 6 31 8 63 63)) gives outOfRangeNumbers)
@@ -347,4 +412,5 @@ unfolding traces result encoded encodedIn decodedAt decodedIn decodedNumbers ans
     start lookUp readBase writeSlice enterIndex checkConflict commit abort inRange eachBelow writersInRange indexInRange instantsInRange noneAbove
     newest cell copied sliced fresh scan rowsAt numbers listBelow pointRead instantState instantAt
     upd empty startRecorded commitRecorded endRecorded recorded storedBy
+    encodedStep ofKind argumentsBy recordBy recordNumbers logWritten pasted flatten runFrom runOf
 traces-hold = refl
