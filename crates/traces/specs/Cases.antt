@@ -1,6 +1,6 @@
 -- A trace: what is asked of the definitions, and what they are stated to give, in numbers.
 use Prim.Native.Nat.{ℕ}
-use mathlib.Core.Bool.{false, cond}
+use mathlib.Core.Bool.{true, false, cond}
 use mathlib.Core.List.{List, [], _∷_, _++_, map, foldl}
 use mathlib.Core.Option.{Option, none, some}
 use lib.ListN.{getD, replicate}
@@ -21,6 +21,7 @@ use Rattle.model.specs.declared.Step.{Step}
 use Rattle.steplog.specs.Records.{recordAt, recordNumbers}
 use Rattle.steplog.specs.Writing.{LogWritten, logWritten}
 use Rattle.run.specs.Runs.{Input, Run, runOf}
+use Rattle.rules.specs.Parts.{slotOf, actOnParts}
 
 pub data Case : Type 0 where
   encode : ℕ → Case  -- a number
@@ -38,6 +39,7 @@ pub data Case : Type 0 where
   instants : State → List Step → List ℕ → Case  -- the instants of some timestamps after steps on a table
   history : List Step → Case  -- the history of steps on a fresh table
   stored : List Step → ℕ → ℕ → Case  -- what the write steps among steps on a fresh table stored under a timestamp, of a key
+  onParts : State → Step → Case  -- the answer of `rules::act` to a caller who says that the table is in range, whether it is or not
   judged : State → Case  -- a step of writer 8, a read of key 32, a scan with too little room, and the instant of timestamp 1
 
 -- the answer of the log writer, its byte count and the buffer
@@ -130,6 +132,7 @@ result (rows st ss is) = rowsNumbers (afterSteps st ss .shared) is
 result (instants st ss ts) = instantsNumbers (afterSteps st ss) ts
 result (history ss) = historyNumbers (after ss .history)
 result (stored ss n k) = valueNumbers (after ss .stored n k)
+result (onParts st s) = actOnParts true (writerOf st (slotOf (s .writer))) (st .shared) s .answer ∷ []
 result (judged st) =
     step st (does 8 (Start (Put 32 0 8))) .answer
     ∷ foundNumbers (pointRead st 1 32) ++ listedNumbers (scan st 1 (replicate 2 99)) ++ instantNumbers (instantAt st 1)

@@ -27,7 +27,8 @@ use Rattle.steplog.specs.Records.{encodedStep, ofKind, argumentsBy, recordBy, r
 use Rattle.steplog.specs.Writing.{logWritten}
 use Rattle.run.specs.Runs.{ofLog, ofList, runFrom, runOf}
 use Rattle.traces.specs.Cases.{Case, encode, decode, readRecord, written, ran, answers, eachAnswer, scanned, read, stands}
-use Rattle.traces.specs.Cases.{place, rows, instants, history, stored, judged}
+use Rattle.rules.specs.Parts.{actOnParts}
+use Rattle.traces.specs.Cases.{onParts, place, rows, instants, history, stored, judged}
 use Rattle.traces.specs.Cases.{writerNumbers, pendingOperation, committedOperation, does, result, Trace, _gives_}
 
 -- a started operation carried out to its commit, from its look up on
@@ -281,7 +282,8 @@ traces =
     ∷ (history (startAndAbort 0) gives 1 ∷ idle 8)
     ∷ (history aborts gives 3 ∷ pendingOperation 3 (Put 1 11 6) ++ idle 7)
     ∷ (history p10
-    gives 4 ∷ pendingOperation 3 (Put 1 11 1) ++ idle 7 ++ committedOperation 4 2 (Put 2 21 2) ++ committedOperation 2 2 (Put 2 20 2) ++ committedOperation 1 1 (Put 1 10 1))
+    gives 4 ∷ pendingOperation 3 (Put 1 11 1) ++ idle 7
+    ++ committedOperation 4 2 (Put 2 21 2) ++ committedOperation 2 2 (Put 2 20 2) ++ committedOperation 1 1 (Put 1 10 1))
     ∷ (history beside gives 2 ∷ pendingOperation 1 (Put 0 10 0) ++ idle 7)
     ∷ (history putAndRemove gives 3 ∷ idle 8 ++ committedOperation 3 1 (Remove 1) ++ committedOperation 2 1 (Put 1 11 5) ++ committedOperation 1 1 (Put 1 10 1))
     -- what write steps stored: nothing before them; the rows of the base with the key put; also where the operation ends
@@ -377,6 +379,14 @@ traces =
     ∷ (judged (withWriter (atLargest 63) 0 (busy 0 31 7 63 63)) gives inRangeNumbers)
     ∷ (judged (withWriter (atLargest 63) 0 (busy 0 31 7 0 63)) gives inRangeNumbers)
     ∷ (judged (withWriter (atLargest 63) 0 (busy 6 31 7 1 63)) gives inRangeNumbers)
+    -- a step on the parts of a table that its caller takes for one in range: 10; 17 for an actor or a last timestamp out of range; else the rules
+    ∷ (onParts (atLargest 64) (does 8 Abort) gives 10 ∷ [])
+    ∷ (onParts (atLargest 64) (does 0 Abort) gives 6 ∷ [])
+    ∷ (onParts (withWriter (atLargest 63) 0 (busy 7 31 7 63 63)) (does 0 Abort) gives 17 ∷ [])
+    ∷ (onParts (withWriter (atLargest 63) 0 (busy 6 31 7 64 63)) (does 0 Abort) gives 17 ∷ [])
+    ∷ (onParts (atLargestBut 64 (λ s. withLast s 65)) (does 0 Abort) gives 17 ∷ [])
+    ∷ (onParts (withWriter (atLargest 63) 0 (busy 7 31 7 63 63)) (does 1 Abort) gives 6 ∷ [])
+    ∷ (onParts (atLargestBut 63 (λ s. withLock s 9)) (does 0 Abort) gives 6 ∷ [])
     -- out of range by one number: the last timestamp; the lock
     ∷ (judged (atLargestBut 64 (λ s. withLast s 65)) gives outOfRangeNumbers)
     ∷ (judged (atLargestBut 63 (λ s. withLock s 9)) gives outOfRangeNumbers)
@@ -408,7 +418,7 @@ traces =
     ∷ []
 
 pub traces-hold : map (λ (t : Trace). result (t .case)) traces ≡ map (λ (t : Trace). t .stated) traces
-unfolding traces result encoded encodedIn decodedAt decodedIn decodedNumbers answersFrom executed next step stepTested ruled act
+unfolding traces result actOnParts encoded encodedIn decodedAt decodedIn decodedNumbers answersFrom executed next step stepTested ruled act
     start lookUp readBase writeSlice enterIndex checkConflict commit abort inRange eachBelow writersInRange indexInRange instantsInRange noneAbove
     newest cell copied sliced fresh scan rowsAt numbers listBelow pointRead instantState instantAt
     upd empty startRecorded commitRecorded endRecorded recorded storedBy
