@@ -21,7 +21,7 @@ use Rattle.model.specs.declared.Operation.{Operation}
 use Rattle.model.specs.declared.Operation.the-variants.{Put, Remove}
 use Rattle.model.specs.declared.Action.the-variants.{Start, LookUp, Read, Write, Index, Check, Commit, Abort}
 use Rattle.model.specs.declared.Step.{Step}
-use Rattle.traces.specs.Cases.{Case, encode, decode, answers, eachAnswer, scanned, read, stands}
+use Rattle.traces.specs.Cases.{encode, decode, answers, eachAnswer, scanned, read, stands}
 use Rattle.traces.specs.Cases.{place, rows, instants, history, stored, judged}
 use Rattle.traces.specs.Cases.{writerNumbers, inProgress, committedAt, does, outcome, Trace, _gives_}
 
