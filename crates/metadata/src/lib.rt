@@ -1,4 +1,4 @@
-// The metadata of a table, read: the range test of answer 17, and searches of the timeline.
+// The metadata of a table, read: the range test of answer 17, and the search of the timeline.
 mod range;
 mod timeline;
 

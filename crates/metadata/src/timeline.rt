@@ -1,4 +1,4 @@
-// Searches of the timeline.
+// The search of the timeline.
 ghost use mathlib.Core.Path.{_≡_};
 ghost use Prim.Native.Nat.{min};
 ghost use Rattle.model.specs.State.{newest};
@@ -22,7 +22,8 @@ fn wide(x: u8) -> u16
     x as u16
 }
 
-// The largest completed timestamp of a file group at or below `upto`, or 0; for a group past the last it is 0, since no instant names one.
+// The largest completed timestamp of a file group at or below `upto`, or 0. Any group may be asked for; one past the last is found only in a
+// timeline that is out of range.
 pub fn newest_of(timeline: &[u8], group: u8, upto: u8) -> u8
     ensures { λ r. ⌜ r ≡ newest (now (timeline .entry)) group upto ⌝ }
 {

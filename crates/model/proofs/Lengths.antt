@@ -1,5 +1,5 @@
 -- The lists of a state have their lengths: `fresh-lengths`, and `step-lengths`, a step keeps them.
-use Prim.Native.Nat.{ℕ, _*_}
+use Prim.Native.Nat.{ℕ}
 use mathlib.Core.Path.{_≡_, ap, _∙_}
 use mathlib.Core.List.{List}
 use mathlib.Core.Bool.{Bool, false}

@@ -1,5 +1,7 @@
 -- No table reached from a fresh one gives 17.
 --     step-in-range        a step leaves a state in range in range
+--     answer-in-range      a step on a state in range is not answered 17
+--     fresh-in-range       the fresh state is in range
 --     reached-in-range     a state reached from the fresh one is in range
 --     never-out-of-range   so no step there is answered 17
 use Prim.Native.Nat.{ℕ, _<_, _≤_}

@@ -2,7 +2,7 @@
 -- 1 to 6 end an operation, from `committed` to `aborted`; what is above `aborted` is a refusal and changes nothing.
 use Prim.Native.Nat.{ℕ}
 
--- the step is taken, and the operation goes on
+-- 0: the step is taken and the operation goes on; or a read is not refused
 abbrev pub taken : ℕ
 taken = 0
 

@@ -33,6 +33,7 @@ pub record Execution : Type 0 where
   pub history : History
   pub stored : ℕ → ℕ → Option ℕ
 
+-- is an action the write step, which stores a slice (document 01, A writer's walk, 4)
 abbrev pub isWrite : Action → Bool
 isWrite (Start op) = false
 isWrite LookUp = false

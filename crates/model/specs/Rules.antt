@@ -96,7 +96,8 @@ lookUp x s =
     (cond (not (eqb (entryOf s (x .key)) 0)) (goesOn (moved x 2 (entryOf s (x .key) - 1) (x .base)) s)
     (cond (x .put) (goesOn (moved x 2 (x .group) (x .base)) s) (ended notIndexed s)))
 
--- 3: the base is the newest completed timestamp of the group, and the instant is inflight; one newer than the writer's own ends it, still requested
+-- 3: the base is the newest completed timestamp of the group, and the instant is inflight; a completed timestamp above the writer's own ends the
+-- operation, and its instant stays as it is
 unfoldable pub readBase : Writer → Shared → Verdict
 readBase x s =
     cond (not (eqb (x .phase) 2)) (refused wrongPhase)
@@ -184,10 +185,10 @@ updated st w o = answered (o .answer) (record { shared = o .shared; writers = se
 abbrev pub writerOf : State → ℕ → Writer
 writerOf st w = getD (st .writers) w ready
 
--- one step of a table whose range test gave `fine`: 17, then 10, then the rule of the action (document 01, Answer numbers)
+-- one step of a table whose range test gave `tested`: 17, then 10, then the rule of the action (document 01, Answer numbers)
 unfoldable pub stepTested : Bool → State → Step → Answered
-stepTested fine st s =
-    cond (not fine) (answered outOfRange st)
+stepTested tested st s =
+    cond (not tested) (answered outOfRange st)
     (cond (leb writers (s .writer)) (answered noWriter st)
     (updated st (s .writer) (act (writerOf st (s .writer)) (s .writer) (st .shared) (s .action))))
 

@@ -18,6 +18,7 @@ use Rattle.rules.specs.declared.actions.Acted.{Acted}
 abbrev pub slotOf : ℕ → ℕ
 slotOf w = cond (ltb w writers) w 0
 
+-- r is that place, which exists whatever the number
 pub record Slot (w r : ℕ) : Type 0 where
   pub is : r ≡ slotOf w
   pub small : r < writers

@@ -160,7 +160,7 @@ fn start(x: Writer, op: Operation, last: &mut u8, timeline: &mut [u8; TIMESTAMPS
     Verdict::GoesOn(begin(op, ts))
 }
 
-// 2. Look up: the file group that the index has for the key, or the one that a put proposes.
+// 2. Look up: the file group that the index has for the key, or the one that a put proposes; an unindexed remove ends.
 fn look_up(x: Writer, index: &[u8; KEYS]) -> Verdict
     requires { ⌜ Bounds x ⌝ }
     ensures { λ r. ⌜ Follows x r (reading withIndex (now (index .entry))) (rules.lookUp x) ⌝ }
@@ -196,7 +196,7 @@ fn read_base(x: Writer, last: u8, timeline: &mut [u8; TIMESTAMPS]) -> Verdict
     Verdict::GoesOn(moved(x, 3, x.group, base))
 }
 
-// 4. Write: the slice is stored; no reader sees it before the commit.
+// 4. Write: the slice is stored; no read shows it while the instant is inflight.
 fn write_slice(x: Writer, present: &mut [bool; ROWS], values: &mut [Value; ROWS]) -> Verdict
     requires { ⌜ Bounds x ⌝ }
     ensures { λ r. ⌜ Follows x r (together (changing withPresent present) (changing withValues values)) (rules.writeSlice x) ⌝ }
@@ -275,7 +275,7 @@ fn commit(x: Writer, timeline: &mut [u8; TIMESTAMPS]) -> Verdict
     Verdict::Ended(COMMITTED)
 }
 
-// 8. Abort, document 01's give up: the operation ends at any phase.
+// 8. Abort, document 01's give up: the operation ends, at any phase but 0.
 fn abort(x: Writer) -> Verdict
     ensures { λ r. ⌜ Follows x r noField (rules.abort x) ⌝ }
 {

@@ -1,6 +1,6 @@
 -- The rows of a key stored, file group by file group: `StoringOthers` is the loop's invariant, the pieces pasted so far with the rows left to store.
 --     others-begin, others-inside, others-look, others-ask, others-skip, others-row, others-end    its laws
---     key-none, key-first, key-others, key-end    the rows of a key: none, the first, the others, and all
+--     key-none, key-inside, key-first, key-others, key-end    the rows of a key: none, the file group of the first, the first, the others, and all
 --     all-begin, all-key, all-end    the rows of key after key: the room, what each key's rows ask, and what is stored
 use Prim.Native.Nat.{ℕ, _+_, _-_, _*_, _<_, _≤_}
 use native.Mathlib.Decide.{ℕ-discrete, decLt}

@@ -1,5 +1,6 @@
 -- The pass down the timeline that finds the newest slice of each file group: `Passed` is the loop's invariant, with one law for each way round it.
 --     pass-none, pass-open, pass-old, pass-new, pass-end, pass-full    the laws of `Passed`
+--     pass-group, pass-missing    a completed instant names a file group, and one found first is among those missing
 --     instant-slot, instant-above    where an instant stands, and that none stands above the end
 use Prim.Native.Nat.{ℕ, zero, suc, _+_, _-_, _<_, _≤_, min}
 use native.Mathlib.Nat.{eq-zero-or-pos}

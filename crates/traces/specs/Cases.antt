@@ -33,7 +33,7 @@ pub data Case : Type 0 where
   eachAnswer : State → Case  -- the answers to each action of writer 0, all on the same table
   scanned : State → List Step → ℕ → ℕ → Case  -- a scan after steps on a table, at a timestamp, with room for so many numbers, each 99
   read : State → List Step → ℕ → ℕ → Case  -- a point read after steps on a table, at a timestamp, of a key
-  stands : State → List Step → ℕ → ℕ → Case  -- last timestamp, lock, a writer's record and a key's index entry after steps on a table
+  stands : State → List Step → ℕ → ℕ → Case  -- last timestamp, lock, a key's index entry and a writer's record after steps on a table
   place : ℕ → ℕ → ℕ → Case  -- the place of the row of a file group, timestamp and key
   rows : State → List Step → List ℕ → Case  -- the rows at some places after steps on a table
   instants : State → List Step → List ℕ → Case  -- the instants of some timestamps after steps on a table

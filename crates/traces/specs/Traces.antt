@@ -26,7 +26,7 @@ use Rattle.model.specs.declared.Step.{Step}
 use Rattle.steplog.specs.Records.{encodedStep, ofKind, argumentsBy, recordBy, recordNumbers}
 use Rattle.steplog.specs.Writing.{logWritten}
 use Rattle.run.specs.Runs.{ofLog, ofList, runFrom, runOf}
-use Rattle.traces.specs.Cases.{Case, encode, decode, readRecord, written, ran, answers, eachAnswer, scanned, read, stands}
+use Rattle.traces.specs.Cases.{encode, decode, readRecord, written, ran, answers, eachAnswer, scanned, read, stands}
 use Rattle.rules.specs.Parts.{actOnParts}
 use Rattle.traces.specs.Cases.{onParts, place, rows, instants, history, stored, judged}
 use Rattle.traces.specs.Cases.{writerNumbers, pendingOperation, committedOperation, does, result, Trace, _gives_}
