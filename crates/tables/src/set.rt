@@ -3,11 +3,7 @@ use common::Word;
 use model::Table;
 use model::Value;
 use model::Writer;
-use model::instants::NONE;
-use model::limits::KEYS;
 use model::limits::ROWS;
-use model::limits::TIMESTAMPS;
-use model::limits::WRITERS;
 use scripts::play;
 use slices::row_place;
 
@@ -24,24 +20,13 @@ pub fn putting(phase: u8, key: u8, value: Value, group: u8, ts: u8, base: u8) ->
     }
 }
 
-// A table with a last timestamp and nothing else.
+// A fresh table but for its last timestamp.
 pub fn bare(last: u8) -> Table {
-    let ready = Writer {
-        phase: 0,
-        put: false,
-        key: 0,
-        group: 0,
-        ts: 0,
-        base: 0,
-        value: 0,
-    };
-    Table {
-        last,
-        lock: 0,
-        writers: [ready; WRITERS],
-        index: [0; KEYS],
-        timeline: [NONE; TIMESTAMPS],
-    }
+    let mut present = [false; ROWS];
+    let mut values: [Value; ROWS] = [0; ROWS];
+    let mut t = table::fresh(&mut present, &mut values);
+    t.last = last;
+    t
 }
 
 // A row of the slice of a file group and a timestamp.
