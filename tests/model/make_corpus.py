@@ -8,10 +8,11 @@ STDOUT gets for each log the line ``log I``, counted from 0, and the program's
 text for it. HISTOGRAM gets Markdown tables of the answers and stops that occur
 and of the logs. The files are the same in every run.
 
-Every log but the one that is too long is also run step by step against document 01's own claims: the scan
-lists what the history says, no key stands in the committed slices of two
-groups, the listing at a stable timestamp stays whatever steps follow (demand
-3), and the steps coded again give the log's bytes (demand 2).
+Every log but the one that is too long is also run step by step against the
+papers' own claims: the scan lists what the history says, no key stands in the
+committed slices of two groups, the listing at a stable timestamp stays
+whatever steps follow (demand 3), the steps coded again give the log's bytes
+(demand 2), and no row has the erased word as its value (Q-3).
 """
 
 from __future__ import annotations
@@ -26,6 +27,7 @@ from dataclasses import dataclass, replace
 from pathlib import Path
 
 from table_model import (
+    ERASED_WORD,
     GROUPS,
     KEYS,
     MAX_INPUT,
@@ -51,7 +53,7 @@ from table_model import (
 )
 
 SEED = 20_240_501
-EDGE_VALUES = (0, 1, 127, 128, 16_383, 16_384, 2**31, MAX_NUMBER)
+EDGE_VALUES = (0, 1, 127, 128, 16_383, 16_384, 2**31, ERASED_WORD - 1, ERASED_WORD)
 
 
 class Draw:
@@ -199,7 +201,7 @@ def trace_logs() -> Iterator[bytes]:
     """Document 01's example, the empty log, single records, and P5 to P10."""
     yield bytes.fromhex("00 01 01 AC 02 02 00 03 00 04 00 05 00 06 00 07 00 08")
     yield b""
-    yield encode([Step(7, Put(31, MAX_NUMBER, 7))])
+    yield encode([Step(7, Put(31, ERASED_WORD - 1, 7))])
     yield encode([Step(0, Action.GIVE_UP)])
 
     def put(writer: int, key: int, value: int, group: int) -> list[Step]:
@@ -252,7 +254,7 @@ def lock_logs() -> Iterator[bytes]:
 
 
 def refusal_logs() -> Iterator[bytes]:
-    """The first refusal that applies is given: 10, 12, 13, 14, 15, 16."""
+    """The first refusal that applies is given: 10, 12, 13, 18, 14, 15, 16."""
     starts = [
         Step(writer, operation)
         for writer in (0, 1, 8, MAX_NUMBER)
@@ -260,6 +262,9 @@ def refusal_logs() -> Iterator[bytes]:
             Put(32, 5, 8),
             Put(31, 5, 8),
             Put(MAX_NUMBER, 5, 7),
+            Put(32, ERASED_WORD, 7),
+            Put(31, ERASED_WORD, 8),
+            Put(31, ERASED_WORD, 7),
             Remove(32),
             Remove(MAX_NUMBER),
         )
@@ -273,6 +278,18 @@ def refusal_logs() -> Iterator[bytes]:
     yield encode([*locked, *starts, *actions, *last])
     yield encode([*locked, *waiting, *starts, *actions, *last])
     yield encode([*locked, *waiting, *issued, *starts, *actions, *last])
+
+
+def erased_logs() -> Iterator[bytes]:
+    """A put of the erased word is refused at its start, whatever its writer has in
+    progress, and so are the steps behind it; the value below it is put.
+    """
+    erased, below = (
+        operation_steps(0, Put(1, value, 1)) for value in (ERASED_WORD, ERASED_WORD - 1)
+    )
+    yield encode([*erased, *below, *erased])
+    for taken in range(1, len(below)):
+        yield encode([*below[:taken], erased[0], *below[taken:]])
 
 
 def walk_logs(draw: Draw) -> Iterator[bytes]:
@@ -388,6 +405,7 @@ def families() -> list[tuple[str, list[bytes]]]:
         ("puts after removes", list(remove_logs())),
         ("the lock freed", list(lock_logs())),
         ("refusals", list(refusal_logs())),
+        ("puts of the erased word", list(erased_logs())),
         ("random walks of 50 to 400 steps", list(walk_logs(draw))),
         ("random walks that use up the timestamps", list(exhausting_logs(draw))),
         ("one random walk, ended at ever later steps", list(prefix_logs(draw))),
@@ -398,7 +416,7 @@ def families() -> list[tuple[str, list[bytes]]]:
     ]
 
 
-# --- Document 01's claims ----------------------------------------------------
+# --- The papers' claims ------------------------------------------------------
 
 
 def require(claim: bool, message: str) -> None:
@@ -407,7 +425,7 @@ def require(claim: bool, message: str) -> None:
 
 
 class Checked:
-    """A table and its history, held to demand 3 while steps are taken."""
+    """A table and its history, held to demand 3 and Q-3 while steps are taken."""
 
     def __init__(self) -> None:
         self.table = Table()
@@ -428,10 +446,13 @@ class Checked:
             self.check_groups()
 
     def check_rows(self, timestamp: int) -> None:
-        """The listing is the history's, and a stable one is what it was."""
+        """The listing is the history's, a stable one is what it was, and no value is
+        the erased word.
+        """
         rows = self.table.snapshot(timestamp)
         require(rows == self.history.rows(timestamp), f"rows at {timestamp}")
         require(rows == self.stable.get(timestamp, rows), f"stability at {timestamp}")
+        require(all(row.value != ERASED_WORD for row in rows), f"erased at {timestamp}")
 
     def note_stable(self) -> None:
         for timestamp in range(1, self.history.last_timestamp + 1):
@@ -505,6 +526,7 @@ ANSWERS = {
     Answer.TIMESTAMPS_USED_UP: "64 timestamps issued",
     Answer.LOCK_HELD: "lock held by another",
     Answer.OUT_OF_RANGE: "table value out of range",
+    Answer.VALUE_ERASED: "value is the erased word",
 }
 STOPS = {
     Stop.USED_UP: "input used up",

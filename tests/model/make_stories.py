@@ -19,6 +19,7 @@ from dataclasses import replace
 from pathlib import Path
 
 from table_model import (
+    ERASED_WORD,
     GROUPS,
     KEYS,
     MAX_NUMBER,
@@ -235,7 +236,9 @@ def examples() -> Iterator[str]:
 
 
 def traces() -> Iterator[str]:
-    """Document 01's traces, and its rules on refusals, ends, removes and stops."""
+    """Document 01's traces, its rules on refusals, ends, removes and stops, and the
+    refusal of the erased word.
+    """
     yield from story(
         "P5", 1, 3,
         (
@@ -306,6 +309,24 @@ def traces() -> Iterator[str]:
         (
             "writer 1 gives up, writer 0 commits",
             step(1, GIVE_UP) + steps(0, INDEX, COMMIT),
+        ),
+    )
+    erased, in_progress = Put(1, ERASED_WORD, 1), whole(1, Put(2, 20, 1))
+    yield from story(
+        "The erased word", 1, 2,
+        ("by a ready writer", step(0, erased) + step(0, LOOK_UP)),
+        (
+            "13, 12 and 10 before 18",
+            [
+                Step(0, erased._replace(group=8)),
+                Step(0, erased._replace(key=32)),
+                Step(8, erased),
+            ],
+        ),
+        ("the value below it", whole(0, erased._replace(value=ERASED_WORD - 1))),
+        (
+            "at each phase",
+            sum(([taken, Step(1, erased)] for taken in in_progress), []),
         ),
     )
     put = Put(1, 10, 1)

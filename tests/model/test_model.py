@@ -1,5 +1,6 @@
 #!/usr/bin/env python3
-"""Tests of the reference model against document 01's traces and source 002.
+"""Tests of the reference model against document 01's traces, source 002 and the
+requests of document 02 that have landed.
 
     python3 tests/model/test_model.py
 """
@@ -12,6 +13,7 @@ from collections.abc import Sequence
 
 from make_corpus import PROFILES, Draw, walk
 from table_model import (
+    ERASED_WORD,
     MAX_INPUT,
     MAX_NUMBER,
     Action,
@@ -382,10 +384,12 @@ class Refusals(TableTest):
             (Put(31, 0, 8), 13, 10),
             (Put(32, 0, 7), 12, 10),
             (Remove(MAX_NUMBER), 12, 10),
-            (Put(31, MAX_NUMBER, 7), 0, 10),
-            (Put(31, MAX_NUMBER, 7), 14, 10),
-            (Put(32, 0, 8), 12, 10),
-            (Put(0, 0, 8), 13, 10),
+            (Put(31, ERASED_WORD, 7), 18, 10),
+            (Put(31, ERASED_WORD - 1, 7), 0, 10),
+            (Put(31, ERASED_WORD - 1, 7), 14, 10),
+            (Put(31, ERASED_WORD, 7), 18, 10),
+            (Put(32, ERASED_WORD, 8), 12, 10),
+            (Put(0, ERASED_WORD, 8), 13, 10),
         ):
             with self.subTest(operation=operation):
                 self.assertEqual(self.take(Step(0, operation)), [ready])
@@ -400,6 +404,8 @@ class Refusals(TableTest):
         for step, answer in (
             (Step(0, Put(32, 0, 0)), 12),
             (Step(0, Put(0, 0, 8)), 13),
+            (Step(0, Put(0, ERASED_WORD, 0)), 18),
+            (Step(1, Put(0, ERASED_WORD, 0)), 18),
             (Step(1, Put(0, 0, 0)), 14),
             (Step(0, Put(0, 0, 0)), 15),
             (Step(0, Remove(0)), 15),
@@ -423,7 +429,21 @@ class Refusals(TableTest):
                 if answer >= Answer.NO_SUCH_WRITER:
                     refused.add(int(answer))
                     self.assertEqual(self.table, before)
-        self.assertLessEqual({10, 12, 13, 14, 16}, refused)
+        self.assertLessEqual({10, 12, 13, 14, 16, 18}, refused)
+
+    def test_only_a_start_is_refused_for_its_value(self) -> None:
+        """A table that has the erased word, which no steps give, is in range."""
+        self.take(*through(0, READ, Put(1, 10, 3)))
+        self.table.writers[0].operation = Put(1, ERASED_WORD, 3)
+        self.assert_last(1, between(0, WRITE, COMMIT))
+        self.assert_rows(1, (1, ERASED_WORD, 3))
+
+    def test_a_log_codes_the_erased_word(self) -> None:
+        step = Step(0, Put(1, ERASED_WORD, 2))
+        log = bytes.fromhex("00 01 01 FF FF FF FF 0F 02")
+        self.assertEqual(encode_step(step), log)
+        self.assertEqual(read_record(log, 0), (step, len(log)))
+        self.assertEqual(program(log), "18\nstop 0 at 9\n")
 
 
 class OutOfRange(TableTest):

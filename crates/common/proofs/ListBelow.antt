@@ -1,13 +1,14 @@
 -- Lists over the numbers below n.
 --     same-below, none-below, one-below    two that agree, and one that is empty, at all places or but for one
 --     length-below                         one with at most m elements at each place
+--     each-listed                          what holds of the elements at each place holds of all
 --     list-more, length-more               one number more
 --     list-rest, list-whole                the part below n, and where that is all
 --     sum-length                           the length as a sum
 use Prim.Native.Nat.{ℕ, zero, suc, _+_, _-_, _*_, _≤_, _<_}
 use mathlib.Core.Path.{_≡_, refl, sym, _∙_, ap}
-use mathlib.Core.Logic.{_≢_, by-cases}
-use mathlib.Core.List.{List, [], _∷_, _++_, append-nil, append-assoc}
+use mathlib.Core.Logic.{_≢_, by-cases, ⊎-elim}
+use mathlib.Core.List.{List, [], _∷_, _++_, append-nil, append-assoc, List·Memᴰ, List·Memᴰ·not-nil, List·Memᴰ·append-cases}
 use native.Mathlib.Decide.{ℕ-discrete}
 use native.Mathlib.Numerals.{add-one}
 use native.Mathlib.Omega.{arith}
@@ -36,6 +37,11 @@ module _ {A : Type 0} where
   unfolding listBelow
   length-below m zero f h = omega arith
   length-below m (suc n) f h = rw length-append (omega (arith, length-below m n f h, h n))
+
+  pub each-listed : (n : ℕ) (f : ℕ → List A) (P : A → Type 0) → ((i : ℕ) (x : A) → List·Memᴰ x (f i) → P x) → (x : A) → List·Memᴰ x (listBelow n f) → P x
+  unfolding listBelow
+  each-listed zero f P h x m = absurd (List·Memᴰ·not-nil m)
+  each-listed (suc n) f P h x m = ⊎-elim (each-listed n f P h x) (h n x) (List·Memᴰ·append-cases (listBelow n f) m)
 
 pub no-length : {A : Type 0} (l : List A) → length l ≡ 0 → l ≡ []
 no-length [] e = refl

@@ -1,5 +1,6 @@
 -- The committed operations as a function of the timestamp. `newest-on` says that the definition `newestOn` gives the newest one on a key,
--- `newest-on-later` that one committed above t changes nothing at t, and `committedAt-mem` that the function gives every one of the list.
+-- `newest-on-mem` that this is one of the list, `newest-on-later` that one committed above t changes nothing at t, and `committedAt-mem` that the
+-- function gives every one of the list.
 use Prim.Native.Nat.{ℕ, _≤_, _<_}
 use mathlib.Core.Path.{_≡_, refl, sym, ap, _∙_}
 use mathlib.Core.List.{List, [], _∷_, List·Memᴰ, List·Memᴰ·head, List·Memᴰ·tail}
@@ -12,7 +13,7 @@ use Rattle.common.specs.Counting.{upd}
 use Rattle.model.specs.Rules.{keyOf}
 use Rattle.model.specs.History.{Committed, newerOn, newestOn}
 use Rattle.common.proofs.Cases.{cond-iff, facts}
-use Rattle.common.proofs.Functions.{none-some, upd-same, upd-other, map-upd}
+use Rattle.common.proofs.Functions.{none-some, some-inj, upd-same, upd-other, map-upd}
 use Rattle.model.proofs.Newest.{Newest, newest-kept, newest-moves}
 
 -- the committed operation of a timestamp
@@ -89,6 +90,18 @@ newest-on (c ∷ cs) h k t =
           (λ q. let gone : o ≡ none = sym (old .is) ∙ ap (committedAt cs) q ∙ h .1 in omega (arith, ap tsIn gone, q, h .0))
           ∙ old .is;
     })
+
+-- what it gives is one of the list
+pub newest-on-mem : (cs : List Committed) (k t : ℕ) (c : Committed) → newestOn cs k t ≡ some c → List·Memᴰ c cs
+unfolding newestOn newerOn
+newest-on-mem [] k t c e = absurd (none-some refl e)
+newest-on-mem (d ∷ cs) k t c e = newer (newestOn cs k t) (newest-on-mem cs k t c) e
+  where
+    newer : (o : Option Committed) → (o ≡ some c → List·Memᴰ c cs) → newerOn k t d o ≡ some c → List·Memᴰ c (d ∷ cs)
+    newer none old =
+        simp (cond-iff (λ o. o ≡ some c → List·Memᴰ c (d ∷ cs))) (λ _ e. List·Memᴰ·head (some-inj e refl), λ _ e. absurd (none-some refl e))
+    newer (some b) old =
+        simp (cond-iff (λ o. o ≡ some c → List·Memᴰ c (d ∷ cs))) (λ _ e. List·Memᴰ·head (some-inj e refl), λ _ e. List·Memᴰ·tail (old e))
 
 -- what is committed above t does not count at t
 pub newest-on-later : (c : Committed) (cs : List Committed) (k t : ℕ) → t < c .ts → newestOn (c ∷ cs) k t ≡ newestOn cs k t

@@ -53,7 +53,7 @@ in-progress ss w =
 pub commits-nothing : (v n : View) (w : ℕ) → Invariant v → v .lock ≢ w + 1 → Move v w n → n .history .done ≡ v .history .done
 unfolding startRecorded endRecorded
 commits-nothing v n w i free (stays e) = ap (λ (x : View). x .history .done) e
-commits-nothing v n w i free (starts op at e) = ap (λ (x : View). x .history .done) e
+commits-nothing v n w i free (starts op unerased at e) = ap (λ (x : View). x .history .done) e
 commits-nothing v n w i free (continues p e) = ap (λ (x : View). x .history .done) e
 commits-nothing v n w i free (ends e) = ap (λ (x : View). x .history .done) e
 commits-nothing v n w i free (commits p at is e) = absurd (free (i .writer w .locks (omega arith)))

@@ -83,7 +83,7 @@ module _ (v : View) (w : ℕ) (i : Invariant v) where
 pub move-keeps : (v n : View) (w : ℕ) → Invariant v → Move v w n → Kept v n
 move-keeps v n w i (stays e) =
     subst⁻¹ (Kept v) e (record { shared = unchanged v v (omega arith) refl refl refl refl; invariant = i })
-move-keeps v n w i (starts op at e) = subst⁻¹ (Kept v) e (start-keeps v w i op at)
+move-keeps v n w i (starts op unerased at e) = subst⁻¹ (Kept v) e (start-keeps v w i op at)
 move-keeps v n w i (continues p e) = subst⁻¹ (Kept v) e (phase-keeps v w i p)
 move-keeps v n w i (ends e) = subst⁻¹ (Kept v) e (end-keeps v w i)
 move-keeps v n w i (commits p at is e) = subst⁻¹ (Kept v) e (commit-keeps v w i p at is)

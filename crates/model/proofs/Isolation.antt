@@ -35,7 +35,7 @@ unfolding fresh
 fresh-writer w = getD-fresh writers w ready
 
 -- the fresh table and the empty history satisfy the invariant
-fresh-consistent : Consistent beginning
+pub fresh-consistent : Consistent beginning
 unfolding fresh empty committedAt
 fresh-consistent =
     record {
@@ -78,7 +78,7 @@ module _ (t : ℕ) (h : History) (v : View) (w : ℕ) (s : Settled t h (v .histo
   move-settled : (n : View) → Move v w n → Settled t h (n .history)
   unfolding startRecorded endRecorded commitRecorded
   move-settled n (stays e) = subst⁻¹ SettledIn e s
-  move-settled n (starts op at e) =
+  move-settled n (starts op unerased at e) =
       subst⁻¹ SettledIn e
       (record {
         issued = omega (arith, s .issued);

@@ -20,4 +20,5 @@ pub mod StepMoves
 pub mod Listing
 pub mod Isolation
 pub mod Corollaries
+pub mod Erased
 pub mod EnumNumbers

@@ -6,7 +6,7 @@ use mathlib.Core.Bool.{true, false, cond}
 use mathlib.Core.Option.{Option, none, some}
 use Rattle.common.specs.Counting.{upd}
 use Rattle.model.specs.State.{ready}
-use Rattle.model.specs.Rules.{begun, moved, released}
+use Rattle.model.specs.Rules.{putsErased, begun, moved, released}
 use Rattle.model.specs.History.{Pending, History, startRecorded, commitRecorded, endRecorded}
 use Rattle.model.specs.declared.Writer.{Writer}
 use Rattle.model.specs.declared.Operation.{Operation}
@@ -113,7 +113,7 @@ pub data NextPhase (v : View) (w : ℕ) (x : Writer) : Writer → ℕ → (ℕ �
 -- what a step of writer w makes of a view
 pub data Move (v : View) (w : ℕ) (n : View) : Type 0 where
   stays : n ≡ v → Move v w n
-  starts : (op : Operation) → v .writer w .phase ≡ 0 → n ≡ afterStart v w op → Move v w n
+  starts : (op : Operation) → putsErased op ≡ false → v .writer w .phase ≡ 0 → n ≡ afterStart v w op → Move v w n
   continues : {x : Writer} {l : ℕ} {e : ℕ → ℕ} {c : ℕ → ℕ → ℕ → Option ℕ} {d : ℕ → ℕ → Option ℕ}
       → NextPhase v w (v .writer w) x l e c d → n ≡ afterPhase v w x l e c d → Move v w n
   ends : n ≡ afterEnd v w → Move v w n

@@ -58,6 +58,10 @@ locked = 16
 abbrev pub outOfRange : ℕ
 outOfRange = 17
 
+-- the value is the erased word, in a put (document 02, Q-3)
+abbrev pub erasedValue : ℕ
+erasedValue = 18
+
 -- the rows of a scan do not fit
 abbrev pub noRoom : ℕ
 noRoom = 31

@@ -5,9 +5,9 @@ use mathlib.Core.Bool.{Bool, true, false, cond, not, _&&_}
 use mathlib.Core.List.{List}
 use lib.ListN.{getD, set}
 use lib.Dec.{eqb, ltb, leb}
-use Rattle.model.specs.Limits.{writers, keys, groups, timestamps}
+use Rattle.model.specs.Limits.{writers, keys, groups, timestamps, erasedWord}
 use Rattle.model.specs.Answers.{taken, committed, notIndexed, tooLate, otherGroup, groupChanged, aborted}
-use Rattle.model.specs.Answers.{noWriter, noKey, noGroup, wrongPhase, noTimestamp, locked, outOfRange}
+use Rattle.model.specs.Answers.{noWriter, noKey, noGroup, wrongPhase, noTimestamp, locked, outOfRange, erasedValue}
 use Rattle.model.specs.State.{Shared, State, ready, requested, inflight, completed, newest, rowAt, rowIn}
 use Rattle.model.specs.State.{withLast, withLock, withIndex, withTimeline, withPresent, withValues}
 use Rattle.model.specs.Range.{inRange}
@@ -26,6 +26,11 @@ keyOf (Remove k) = k
 abbrev pub groupOf : Operation → ℕ
 groupOf (Put k v g) = g
 groupOf (Remove k) = 0
+
+-- is an operation a put of the erased word; a remove has no value (document 02, Q-3)
+abbrev pub putsErased : Operation → Bool
+putsErased (Put k v g) = eqb v erasedWord
+putsErased (Remove k) = false
 
 -- a writer that has started an operation under timestamp n
 abbrev pub begun : Operation → ℕ → Writer
@@ -78,16 +83,17 @@ pub data Verdict : Type 0 where
   ended : ℕ → Shared → Verdict
   goesOn : Writer → Shared → Verdict
 
--- The rules, in the order of document 01, A writer's walk. Each tests its refusals in the order of document 01, Answer numbers; 17 and 10 come
--- before all rules, in `stepTested`.
+-- The rules, in the order of document 01, A writer's walk. Each tests its refusals in the order of document 01, Answer numbers, with 18 between 13
+-- and 14 (document 02, Q-3); 17 and 10 come before all rules, in `stepTested`.
 
 -- 1: the operation is judged, then a ready writer takes the next timestamp, whose instant is requested
 unfoldable pub start : Writer → Shared → Operation → Verdict
 start x s op =
     cond (leb keys (keyOf op)) (refused noKey)
     (cond (leb groups (groupOf op)) (refused noGroup)
+    (cond (putsErased op) (refused erasedValue)
     (cond (not (eqb (x .phase) 0)) (refused wrongPhase)
-    (cond (leb timestamps (s .last)) (refused noTimestamp) (goesOn (begun op (s .last + 1)) (issued s)))))
+    (cond (leb timestamps (s .last)) (refused noTimestamp) (goesOn (begun op (s .last + 1)) (issued s))))))
 
 -- 2: the group is that of the key's index entry; without one a put takes the group that it proposes, and a remove ends
 unfoldable pub lookUp : Writer → Shared → Verdict

@@ -27,4 +27,6 @@ pub const LOCKED: u8 = 16;
 
 pub const OUT_OF_RANGE: u8 = 17;
 
+pub const ERASED_VALUE: u8 = 18;
+
 pub const NO_ROOM: u8 = 31;

@@ -17,6 +17,7 @@ use model::Value;
 use model::Writer;
 use model::answers::ABORTED;
 use model::answers::COMMITTED;
+use model::answers::ERASED_VALUE;
 use model::answers::GROUP_CHANGED;
 use model::answers::LOCKED;
 use model::answers::NO_GROUP;
@@ -30,6 +31,7 @@ use model::answers::WRONG_PHASE;
 use model::instants::COMPLETED;
 use model::instants::INFLIGHT;
 use model::instants::REQUESTED;
+use model::limits::ERASED_WORD;
 use model::limits::GROUPS;
 use model::limits::KEYS;
 use model::limits::ROWS;
@@ -107,6 +109,20 @@ fn group_of(op: Operation) -> Word
     }
 }
 
+// Is an operation a put of the erased word?
+fn puts_erased(op: Operation) -> bool
+    ensures { λ r. ⌜ r ≡ rules.putsErased op ⌝ }
+{
+    match op {
+        Operation::Put {
+            key: _,
+            value,
+            group: _,
+        } => value == ERASED_WORD,
+        Operation::Remove { key: _ } => false,
+    }
+}
+
 // A writer that starts an operation under a timestamp.
 fn begin(op: Operation, ts: u8) -> Writer
     requires { ⌜ (rules.keyOf op < keys) × (rules.groupOf op < groups) ⌝ }
@@ -138,15 +154,20 @@ fn begin(op: Operation, ts: u8) -> Writer
 fn start(x: Writer, op: Operation, last: &mut u8, timeline: &mut [u8; TIMESTAMPS]) -> Verdict
     ensures { λ r. ⌜ Follows x r (together (changing withLast last) (changing withTimeline timeline)) (λ s. rules.start x s op) ⌝ }
 {
-    let key = key_of(op);
-    let group = group_of(op);
-    if key >= KEYS as Word {
+    let no_key = key_of(op) >= KEYS as Word;
+    let no_group = group_of(op) >= GROUPS as Word;
+    let erased = puts_erased(op);
+    let busy = x.phase != 0;
+    if no_key {
         return Verdict::Refused(NO_KEY);
     }
-    if group >= GROUPS as Word {
+    if no_group {
         return Verdict::Refused(NO_GROUP);
     }
-    if x.phase != 0 {
+    if erased {
+        return Verdict::Refused(ERASED_VALUE);
+    }
+    if busy {
         return Verdict::Refused(WRONG_PHASE);
     }
     let issued = *last;

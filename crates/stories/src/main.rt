@@ -1,4 +1,4 @@
-// Source 002's examples and document 01's traces, run as logs and step by step.
+// Source 002's examples, document 01's traces and document 02's rules, run as logs and step by step.
 mod examples;
 mod traces;
 
@@ -10,6 +10,7 @@ fn main() {
     examples::out_of_order_two_groups();
     traces::conflicts();
     traces::refusals();
+    traces::erased_word();
     traces::ends();
     traces::starts();
     traces::stops();

@@ -1,6 +1,6 @@
 -- What the definitions give, in one table with one claim about all of it: document 01's traces (Traces to hold it to) that are marked P, and cases for
 -- what no law of the whole table says: the stops of numbers and records, the log writer's refusals, histories, instants, the grounds of 17 one by one,
--- the refusals in their order, tables that no run reaches.
+-- the refusals in their order, the erased word (document 02, Q-3), tables that no run reaches.
 use Prim.Native.Nat.{ℕ, _-_}
 use mathlib.Core.Path.{_≡_, refl}
 use mathlib.Core.Bool.{true, false}
@@ -95,6 +95,13 @@ everyKindLog =
     0x00 ∷ 0x01 ∷ 0x01 ∷ 0xAC ∷ 0x02 ∷ 0x02 ∷ 0x01 ∷ 0x02 ∷ 0x63 ∷ 0x02 ∷ 0x03 ∷ 0x02 ∷ 0x04 ∷ 0x02 ∷ 0x05 ∷ 0x02 ∷ 0x06 ∷ 0x02 ∷ 0x07
     ∷ 0x02 ∷ 0x08 ∷ 0x02 ∷ 0x09 ∷ []
 
+-- writer w starts a put of the erased word, and the log of such a start
+abbrev startErased : ℕ → ℕ → ℕ → Step
+startErased w k g = does w (Start (Put k 4294967295 g))
+
+abbrev startErasedLog : List ℕ
+startErasedLog = 0x00 ∷ 0x01 ∷ 0x01 ∷ 0xFF ∷ 0xFF ∷ 0xFF ∷ 0xFF ∷ 0x0F ∷ 0x02 ∷ []
+
 -- a look up, then a record whose kind is none
 abbrev badKindLog : List ℕ
 badKindLog = 0x00 ∷ 0x03 ∷ 0x00 ∷ 0x0A ∷ []
@@ -131,6 +138,12 @@ removing phase key group ts base = record { phase = phase; put = false; key = ke
 -- writer 0 stands at a phase, the others are ready
 abbrev atPhase : ℕ → State
 atPhase p = withWriter (table (withInstants (inflight 0 ∷ []))) 0 (busy p 0 0 1 0)
+
+-- writer 0 is at its write step with a put of the erased word
+abbrev writingErased : State
+writingErased =
+    let x : Writer = record { phase = 3; put = true; key = 6; group = 0; ts = 1; base = 0; value = 4294967295 } in
+    withWriter (table (withInstants (inflight 0 ∷ []))) 0 x
 
 -- timestamp 1 is completed in group 0, and another writer holds it in group 1
 abbrev otherGroupsTimestamp : State
@@ -343,11 +356,25 @@ traces =
     ∷ (eachAnswer (atPhase 4) gives 14 ∷ 14 ∷ 14 ∷ 14 ∷ 0 ∷ 14 ∷ 14 ∷ 6 ∷ [])
     ∷ (eachAnswer (atPhase 5) gives 14 ∷ 14 ∷ 14 ∷ 14 ∷ 14 ∷ 0 ∷ 14 ∷ 6 ∷ [])
     ∷ (eachAnswer (atPhase 6) gives 14 ∷ 14 ∷ 14 ∷ 14 ∷ 14 ∷ 14 ∷ 1 ∷ 6 ∷ [])
-    -- refusals, each where the later ones apply too: 10, 12 (put and remove), 13, 14, 15; 14, 16
+    -- refusals, each where the later ones apply too: 10, 12 (put and remove), 13, 18 (before 14, and before 15), 14, 15; 14, 16
     ∷ (answers refusing
-    (does 8 (Start (Put 32 0 8)) ∷ does 1 (Start (Put 32 0 8)) ∷ does 1 (Start (Remove 32)) ∷ does 1 (Start (Put 31 0 8))
+    (startErased 8 32 8 ∷ startErased 1 32 8 ∷ does 1 (Start (Remove 32)) ∷ startErased 1 31 8 ∷ startErased 1 31 7 ∷ startErased 0 31 7
     ∷ does 1 (Start (Put 31 0 7)) ∷ does 0 (Start (Put 31 0 7)) ∷ does 1 Index ∷ does 2 Index ∷ [])
-    gives 10 ∷ 12 ∷ 12 ∷ 13 ∷ 14 ∷ 15 ∷ 14 ∷ 16 ∷ [])
+    gives 10 ∷ 12 ∷ 12 ∷ 13 ∷ 18 ∷ 18 ∷ 14 ∷ 15 ∷ 14 ∷ 16 ∷ [])
+    -- the erased word: put by a ready writer, and by one at phase 1; with no such group, key and writer; the largest value but one; its lowest bits alone
+    ∷ (answers fresh
+    (does 1 (Start (Put 1 10 1)) ∷ startErased 0 0 0 ∷ startErased 1 0 0 ∷ startErased 0 0 8 ∷ startErased 0 32 0 ∷ startErased 8 0 0
+    ∷ does 0 (Start (Put 0 4294967294 0)) ∷ does 2 (Start (Put 0 65535 0)) ∷ [])
+    gives 0 ∷ 18 ∷ 18 ∷ 13 ∷ 12 ∷ 10 ∷ 0 ∷ 0 ∷ [])
+    -- its refusal changes nothing in the table or in the history, for a ready writer and for one at phase 1
+    ∷ (stands fresh (startErased 0 0 0 ∷ []) 0 0 gives 0 ∷ 0 ∷ 0 ∷ readyNumbers)
+    ∷ (stands fresh (does 0 (Start (Put 5 55 3)) ∷ startErased 0 0 0 ∷ []) 0 5 gives 1 ∷ 0 ∷ 0 ∷ writerNumbers (busy 1 5 3 1 0))
+    ∷ (history (does 0 (Start (Put 5 55 3)) ∷ startErased 0 0 0 ∷ startErased 1 0 0 ∷ []) gives 1 ∷ pendingOperation 1 (Put 5 55 3) ++ idle 7)
+    -- a log codes it and reads it, and only the start is refused: a table that has it already, which no run reaches, keeps it
+    ∷ (written (startErased 0 1 2 ∷ []) 10 0 gives 0 ∷ 9 ∷ startErasedLog ++ 99 ∷ [])
+    ∷ (readRecord startErasedLog 0 gives 0 ∷ 9 ∷ 0 ∷ 1 ∷ 1 ∷ 4294967295 ∷ 2 ∷ [])
+    ∷ (ran (ofLog startErasedLog) 2 gives 0 ∷ 1 ∷ 9 ∷ 18 ∷ 99 ∷ [])
+    ∷ (scanned writingErased (does 0 Write ∷ does 0 Index ∷ does 0 Check ∷ does 0 Commit ∷ []) 1 3 gives 0 ∷ 1 ∷ 6 ∷ 4294967295 ∷ 0 ∷ [])
     -- writers, keys and groups whose lowest bits name one
     ∷ (answers fresh
     (does 256 (Start (Put 0 0 0)) ∷ does 0 (Start (Put 256 0 0)) ∷ does 0 (Start (Remove 65536)) ∷ does 0 (Start (Put 0 0 256)) ∷ [])

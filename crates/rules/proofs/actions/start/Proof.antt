@@ -1,5 +1,5 @@
--- `start` follows its rule: by the tests of the rule, which have the values that the branches show.
-use borrow.Author.Tests.{eq-eqb, ne-eqb, le-leb, lt-leb}
+-- `start` follows its rule: by the tests of the rule, which have the values that the branches show. In each answer t is where they have been made.
+use borrow.Author.Tests.{le-leb, lt-leb, leb-false}
 use Rattle.model.specs.Rules.{start}
 use borrow.Author.Needs.{needs}
 use Rattle.rules.proofs.actions.start.Statement.{statement}
@@ -8,53 +8,76 @@ use Rattle.rules.proofs.actions.start.Tie as tie
 key-of-requires : tie.Need-key-of-requires
 key-of-requires c κs = search needs
 
+cast-no-key : tie.Need-cast-no-key
+cast-no-key c = search needs
+
 group-of-requires : tie.Need-group-of-requires
 group-of-requires c κs = search needs
 
-cast-if1 : tie.Need-cast-if1
-cast-if1 c = search needs
+cast-no-group : tie.Need-cast-no-group
+cast-no-group c = search needs
+
+puts-erased-requires : tie.Need-puts-erased-requires
+puts-erased-requires c κs = search needs
 
 returns : tie.Need-returns
 unfolding start
-returns c = λ w s. record { same = rw (← c .before .before .key-of .ensures, le-leb _ _ (c .if1 .taken)) }
-
-cast-if2 : tie.Need-cast-if2
-cast-if2 c = search needs
+returns c = let t = c .before .before in
+    λ w s. record { same = rw (← t .before .before .key-of .ensures, c .if1 .taken) }
 
 returns-2 : tie.Need-returns-2
 unfolding start
-returns-2 c = let t = c .before in
-    λ w s. record { same = rw (← t .before .before .key-of .ensures, lt-leb _ _ (t .if1 .left), ← t .before .group-of .ensures, le-leb _ _ (c .if2 .taken)) }
+returns-2 c = let t = c .before .before .before in
+    λ w s. record { same = rw (← t .before .before .key-of .ensures, c .before .if1 .left, ← t .before .group-of .ensures, c .if2 .taken) }
 
 returns-3 : tie.Need-returns-3
 unfolding start
-returns-3 c = let t = c .before .before in
+returns-3 c = let t = c .before .before .before .before in
     λ w s. record {
       same =
           rw (
-            ← t .before .before .before .key-of .ensures,
-            lt-leb _ _ (t .before .if1 .left),
-            ← t .before .before .group-of .ensures,
-            lt-leb _ _ (t .if2 .left),
-            ne-eqb _ _ (c .if3 .taken),
+            ← t .before .before .key-of .ensures,
+            c .before .before .if1 .left,
+            ← t .before .group-of .ensures,
+            c .before .if2 .left,
+            ← t .puts-erased .ensures,
+            c .if3 .taken,
           );
     }
 
-cast-if4 : tie.Need-cast-if4
-cast-if4 c = search needs
-
 returns-4 : tie.Need-returns-4
 unfolding start
-returns-4 c = let t = c .before .before in
+returns-4 c = let t = c .before .before .before .before .before in
     λ w s. record {
       same =
           rw (
-            ← t .before .before .before .before .before .key-of .ensures,
-            lt-leb _ _ (t .before .before .before .if1 .left),
-            ← t .before .before .before .before .group-of .ensures,
-            lt-leb _ _ (t .before .before .if2 .left),
-            eq-eqb _ _ (t .if3 .left),
-            le-leb _ _ (c .if4 .taken),
+            ← t .before .before .key-of .ensures,
+            c .before .before .before .if1 .left,
+            ← t .before .group-of .ensures,
+            c .before .before .if2 .left,
+            ← t .puts-erased .ensures,
+            c .before .if3 .left,
+            c .if4 .taken,
+          );
+    }
+
+cast-if5 : tie.Need-cast-if5
+cast-if5 c = search needs
+
+returns-5 : tie.Need-returns-5
+unfolding start
+returns-5 c = let u = c .before .before in let t = u .before .before .before .before .before in
+    λ w s. record {
+      same =
+          rw (
+            ← t .before .before .key-of .ensures,
+            u .before .before .before .if1 .left,
+            ← t .before .group-of .ensures,
+            u .before .before .if2 .left,
+            ← t .puts-erased .ensures,
+            u .before .if3 .left,
+            u .if4 .left,
+            le-leb _ _ (c .if5 .taken),
           );
     }
 
@@ -65,21 +88,26 @@ add-ts : tie.Need-add-ts
 add-ts c = search needs
 
 begin-requires : tie.Need-begin-requires
-begin-requires c κs = search needs
+begin-requires c κs = let u = c .before .before in let t = u .before .before .before .before .before in (
+  rw (← t .before .before .key-of .ensures) (leb-false _ _ (u .before .before .before .if1 .left)),
+  rw (← t .before .group-of .ensures) (leb-false _ _ (u .before .before .if2 .left)),
+)
 
-returns-5 : tie.Need-returns-5
+returns-6 : tie.Need-returns-6
 unfolding start
-returns-5 c = let t = c .before in
+returns-6 c = let u = c .before .before .before in let t = u .before .before .before .before .before in
     λ w s. record {
       same =
           rw (
             c .begin .ensures,
-            ← t .before .before .before .before .before .before .before .key-of .ensures,
-            lt-leb _ _ (t .before .before .before .before .before .if1 .left),
-            ← t .before .before .before .before .before .before .group-of .ensures,
-            lt-leb _ _ (t .before .before .before .before .if2 .left),
-            eq-eqb _ _ (t .before .before .if3 .left),
-            lt-leb _ _ (t .if4 .left),
+            ← t .before .before .key-of .ensures,
+            u .before .before .before .if1 .left,
+            ← t .before .group-of .ensures,
+            u .before .before .if2 .left,
+            ← t .puts-erased .ensures,
+            u .before .if3 .left,
+            u .if4 .left,
+            lt-leb _ _ (c .before .if5 .left),
           );
     }
 
@@ -88,15 +116,17 @@ start-spec =
     tie.close
     (tie.spec
     key-of-requires
+    cast-no-key
     group-of-requires
-    cast-if1
+    cast-no-group
+    puts-erased-requires
     returns
-    cast-if2
     returns-2
     returns-3
-    cast-if4
     returns-4
+    cast-if5
+    returns-5
     element-write-timeline
     add-ts
     begin-requires
-    returns-5)
+    returns-6)

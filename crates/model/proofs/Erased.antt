@@ -1,0 +1,92 @@
+-- The erased word stays out of a table (document 02, Q-3): after any list of steps from a fresh one,
+--     never-erased    no operation in progress, and no committed one, is a put of the erased word
+--     never-listed    no row at any timestamp, and so no row of a scan, has it as its value
+use Prim.Native.Nat.{ℕ}
+use mathlib.Core.Path.{_≡_, refl, subst⁻¹, ap, _∙_}
+use mathlib.Core.Logic.{_≢_}
+use mathlib.Core.Bool.{false}
+use mathlib.Core.List.{List, _∷_, List·Memᴰ, List·Memᴰ·head, List·Memᴰ·tail, List·Memᴰ·not-nil, List·Memᴰ·eq-of-singleton}
+use mathlib.Core.Option.{Option, none, some}
+use borrow.Author.Tests.{eqb-false}
+use Rattle.common.specs.Counting.{upd}
+use Rattle.common.proofs.Functions.{none-some, some-inj, upd-ind}
+use Rattle.common.proofs.ListBelow.{each-listed}
+use Rattle.model.specs.Limits.{keys, erasedWord}
+use Rattle.model.specs.Rules.{putsErased}
+use Rattle.model.specs.Snapshot.{Row, rowsAt}
+use Rattle.model.specs.History.{Pending, Committed, History, empty, startRecorded, commitRecorded, endRecorded}
+use Rattle.model.specs.History.{newestOn, putRow, rowOfNewest, listing}
+use Rattle.model.specs.Isolation.{beginning, after}
+use Rattle.model.specs.declared.Operation.{Operation}
+use Rattle.model.specs.declared.Operation.the-variants.{Put, Remove}
+use Rattle.model.specs.declared.Step.{Step}
+use Rattle.model.proofs.CommittedAt.{newest-on-mem}
+use Rattle.model.proofs.Executed.{executed-keeps}
+use Rattle.model.proofs.Moves.{View, Move, stays, starts, continues, ends, commits}
+use Rattle.model.proofs.StepMoves.{viewOf, Consistent, step-moves, step-consistent}
+use Rattle.model.proofs.Listing.{rows-listed}
+use Rattle.model.proofs.Isolation.{fresh-consistent, reached}
+
+-- no operation of a history is a put of the erased word
+pub record Unerased (h : History) : Type 0 where
+  pub pending : (w : ℕ) (p : Pending) → h .pending w ≡ some p → putsErased (p .operation) ≡ false
+  pub committed : (c : Committed) → List·Memᴰ c (h .done) → putsErased (c .operation) ≡ false
+
+module _ (v : View) (w : ℕ) (h : Unerased (v .history)) where
+  abbrev UnerasedIn : View → Type 0
+  UnerasedIn n = Unerased (n .history)
+
+  -- writer w has another operation in progress, or none
+  pending-but : (o : Option Pending) → ((p : Pending) → o ≡ some p → putsErased (p .operation) ≡ false)
+      → (u : ℕ) (p : Pending) → upd (v .history .pending) w o u ≡ some p → putsErased (p .operation) ≡ false
+  pending-but o f u p =
+      upd-ind (v .history .pending) w o (λ u q. q ≡ some p → putsErased (p .operation) ≡ false) (f p) (λ u ne. h .pending u p) u
+
+  none-pending : (p : Pending) → none ≡ some p → putsErased (p .operation) ≡ false
+  none-pending p e = absurd (none-some refl e)
+
+  move-unerased : (n : View) → Move v w n → Unerased (n .history)
+  unfolding startRecorded commitRecorded endRecorded
+  move-unerased n (stays e) = subst⁻¹ UnerasedIn e h
+  move-unerased n (starts op unerased at e) =
+      subst⁻¹ UnerasedIn e
+      (record {
+        pending = pending-but _ (λ p q. ap (λ (p : Pending). putsErased (p .operation)) (some-inj q refl) ∙ unerased);
+        committed = h .committed;
+      })
+  move-unerased n (continues p e) = subst⁻¹ UnerasedIn e h
+  move-unerased n (ends e) = subst⁻¹ UnerasedIn e (record { pending = pending-but none none-pending; committed = h .committed })
+  move-unerased n (commits p at is e) =
+      subst⁻¹ UnerasedIn e (record { pending = pending-but none none-pending; committed = joined })
+    where
+      joined : (c : Committed) → List·Memᴰ c (record { operation = p .operation; ts = p .ts; group = v .writer w .group } ∷ v .history .done)
+          → putsErased (c .operation) ≡ false
+      joined c (List·Memᴰ·head q) = ap (λ (c : Committed). putsErased (c .operation)) q ∙ h .pending w p is
+      joined c (List·Memᴰ·tail m) = h .committed c m
+
+fresh-unerased : Unerased empty
+unfolding empty
+fresh-unerased = record { pending = λ w p e. absurd (none-some refl e); committed = λ c m. absurd (List·Memᴰ·not-nil m) }
+
+pub never-erased : (ss : List Step) → Unerased (after ss .history)
+never-erased ss =
+    executed-keeps (λ u. Consistent u × Unerased (u .history))
+    (λ u s (c, h). (step-consistent u s c, move-unerased (viewOf u) (s .writer) h _ (step-moves u s c))) beginning ss (fresh-consistent, fresh-unerased) .1
+
+-- the row of a put, and that of the newest operation on a key
+put-unerased : (op : Operation) (g : ℕ) → putsErased op ≡ false → (r : Row) → List·Memᴰ r (putRow op g) → r .value ≢ erasedWord
+put-unerased (Put k v g) group e r m = rw (List·Memᴰ·eq-of-singleton m) (eqb-false v erasedWord e)
+put-unerased (Remove k) group e r m = absurd (List·Memᴰ·not-nil m)
+
+row-unerased : (o : Option Committed) → ((c : Committed) → o ≡ some c → putsErased (c .operation) ≡ false) → (r : Row) → List·Memᴰ r (rowOfNewest o)
+    → r .value ≢ erasedWord
+row-unerased none f r m = absurd (List·Memᴰ·not-nil m)
+row-unerased (some c) f r m = put-unerased (c .operation) (c .group) (f c refl) r m
+
+pub never-listed : (ss : List Step) (t : ℕ) (r : Row) → List·Memᴰ r (rowsAt (after ss .state .shared) t) → r .value ≢ erasedWord
+unfolding listing
+never-listed ss t =
+    let u = after ss in
+    rw (rows-listed u (reached ss) t)
+    (each-listed keys (λ k. rowOfNewest (newestOn (u .history .done) k t)) (λ r. r .value ≢ erasedWord)
+    (λ k. row-unerased (newestOn (u .history .done) k t) (λ c e. never-erased ss .committed c (newest-on-mem (u .history .done) k t c e))))
