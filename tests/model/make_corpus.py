@@ -273,7 +273,12 @@ def refusal_logs() -> Iterator[bytes]:
     locked = operation_steps(0, Put(1, 10, 1))[:5]
     waiting = operation_steps(1, Put(2, 20, 2))[:5]
     issued = [Step(2, Remove(31)), Step(2, Action.GIVE_UP)] * MAX_TIMESTAMP
-    last = [Step(0, Put(31, 5, 7)), Step(2, Put(31, 5, 7)), Step(2, Remove(31))]
+    last = [
+        Step(2, Put(31, ERASED_WORD, 7)),
+        Step(0, Put(31, 5, 7)),
+        Step(2, Put(31, 5, 7)),
+        Step(2, Remove(31)),
+    ]
     yield encode([*starts, *actions])
     yield encode([*locked, *starts, *actions, *last])
     yield encode([*locked, *waiting, *starts, *actions, *last])
@@ -281,8 +286,8 @@ def refusal_logs() -> Iterator[bytes]:
 
 
 def erased_logs() -> Iterator[bytes]:
-    """A put of the erased word is refused at its start, whatever its writer has in
-    progress, and so are the steps behind it; the value below it is put.
+    """A put of the erased word is refused at its start and changes nothing, whatever
+    its writer has in progress; the value below it is put.
     """
     erased, below = (
         operation_steps(0, Put(1, value, 1)) for value in (ERASED_WORD, ERASED_WORD - 1)

@@ -1,6 +1,6 @@
 #!/usr/bin/env python3
 """Tests of the reference model against document 01's traces, source 002 and the
-requests of document 02 that have landed.
+requests of document 02 that are built.
 
     python3 tests/model/test_model.py
 """
@@ -376,7 +376,7 @@ class Walk(TableTest):
 
 
 class Refusals(TableTest):
-    """Document 01's "Answer numbers" from 10 on."""
+    """Document 01's "Answer numbers" from 10 on, and 18 of Q-3."""
 
     def test_order(self) -> None:
         for operation, ready, unknown in (
@@ -432,11 +432,18 @@ class Refusals(TableTest):
         self.assertLessEqual({10, 12, 13, 14, 16, 18}, refused)
 
     def test_only_a_start_is_refused_for_its_value(self) -> None:
-        """A table that has the erased word, which no steps give, is in range."""
-        self.take(*through(0, READ, Put(1, 10, 3)))
+        """A writer that has the erased word, which no steps give, goes on, gives up
+        and starts as any other.
+        """
+        for end, answer in ((between(0, LOOK_UP, COMMIT), 1), ([Step(0, GIVE_UP)], 6)):
+            with self.subTest(answer=answer):
+                self.table = Table()
+                self.take(Step(0, Put(1, 10, 3)))
+                self.table.writers[0].operation = Put(1, ERASED_WORD, 3)
+                self.assert_last(answer, end)
+                self.assert_rows(1, *[(1, ERASED_WORD, 3)] * (answer == 1))
         self.table.writers[0].operation = Put(1, ERASED_WORD, 3)
-        self.assert_last(1, between(0, WRITE, COMMIT))
-        self.assert_rows(1, (1, ERASED_WORD, 3))
+        self.assert_last(1, whole(0, Put(1, 11, 3)))
 
     def test_a_log_codes_the_erased_word(self) -> None:
         step = Step(0, Put(1, ERASED_WORD, 2))
@@ -456,6 +463,7 @@ class OutOfRange(TableTest):
     def assert_out_of_range(self) -> None:
         before = copy.deepcopy(self.table)
         self.assertEqual(self.take(Step(8, Put(32, 0, 8))), [17])
+        self.assertEqual(self.take(Step(0, Put(0, ERASED_WORD, 0))), [17])
         self.assertEqual(self.table.point_read(32, 1), 17)
         buffer = [9] * 99
         self.assertEqual(self.table.scan(1, buffer), (17, 0))

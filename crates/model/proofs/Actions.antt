@@ -107,7 +107,7 @@ module _ (x : Writer) (w : ℕ) (s : Shared) where
   ruling-sound (isRefused a n h) =
       record { answer = h .1; refused = λ _. refl; kept = λ l f g. record { shared = f; writer = g; grows = le-refl (s .last) } }
   ruling-sound (isEnded a n h) = closes (omega arith) refl (λ f _. f)
-  ruling-sound (hasStarted op k g v p l) =
+  ruling-sound (hasStarted op k g unerased p l) =
       accepts (omega arith)
       (λ _ f _. record { shared = with-instant f (omega arith); writer = begun-ranged op (s .last + 1) (omega arith); grows = omega arith })
   ruling-sound (hasFound p i) = moves refl p (omega arith) (λ _ f g. (omega (arith, f .entry (x .key) (g .key)), g .base, f))

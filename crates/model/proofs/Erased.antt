@@ -1,4 +1,4 @@
--- The erased word stays out of a table (document 02, Q-3): after any list of steps from a fresh one,
+-- The erased word is never put (document 02, Q-3): after any list of steps from a fresh table,
 --     never-erased    no operation in progress, and no committed one, is a put of the erased word
 --     never-listed    no row at any timestamp, and so no row of a scan, has it as its value
 use Prim.Native.Nat.{ℕ}

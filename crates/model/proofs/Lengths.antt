@@ -45,7 +45,7 @@ module _ {s : Shared} (h : SharedLengths s) where
 ruling-lengths : (x : Writer) (w : ℕ) (s : Shared) {a : Action} {v : Verdict} → Ruling x w s a v → SharedLengths s → SharedLengths (carried x w s v .shared)
 ruling-lengths x w s (isRefused a n p) h = h
 ruling-lengths x w s (isEnded a n p) h = with-lock h
-ruling-lengths x w s (hasStarted op k g v p l) h = with-instant h _ _
+ruling-lengths x w s (hasStarted op k g unerased p l) h = with-instant h _ _
 ruling-lengths x w s (hasFound p q) h = h
 ruling-lengths x w s (hasProposed p q) h = h
 ruling-lengths x w s (hasRead p q) h = with-instant h _ _

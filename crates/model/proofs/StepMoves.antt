@@ -135,8 +135,8 @@ module _ (u : Execution) (h : Consistent u) (w : ℕ) (there : w < writers) wher
       ends
       (view-path _ (afterEnd v w) refl refl refl refl refl (writer-path ready) (recorded-ended _ _ n _ (p .0) (p .1))
       (stored-untaken _ _ _ _ (omega arith)))
-  ruling-moves (hasStarted op k g e p l) fine =
-      starts op e p
+  ruling-moves (hasStarted op k g unerased p l) fine =
+      starts op unerased p
       (view-path _ (afterStart v w op) refl refl refl
       (completed-upd (sh .timeline) _ (suc (sh .last)) requested
       (instant-next (sh .timeline) (sh .last) requested (omega (arith, h .lengths .shared .timeline)))

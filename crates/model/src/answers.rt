@@ -1,4 +1,4 @@
-// Document 01's answer numbers; specs/Answers.antt has the same.
+// The answer numbers of document 01, and 18 of document 02; specs/Answers.antt has the same.
 pub const TAKEN: u8 = 0;
 
 pub const COMMITTED: u8 = 1;

@@ -8,7 +8,7 @@ use limits::KEYS;
 use limits::TIMESTAMPS;
 use limits::WRITERS;
 
-// What a key holds: any number of a log.
+// What a key holds: a number of a log. No steps put the erased word.
 pub type Value = Word;
 
 // A writer, with its operation in progress. A ready writer is at phase 0 and keeps zeros.

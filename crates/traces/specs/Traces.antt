@@ -139,10 +139,10 @@ removing phase key group ts base = record { phase = phase; put = false; key = ke
 abbrev atPhase : ℕ → State
 atPhase p = withWriter (table (withInstants (inflight 0 ∷ []))) 0 (busy p 0 0 1 0)
 
--- writer 0 is at its write step with a put of the erased word
-abbrev writingErased : State
-writingErased =
-    let x : Writer = record { phase = 3; put = true; key = 6; group = 0; ts = 1; base = 0; value = 4294967295 } in
+-- the same, with the erased word as its value
+abbrev erasedAtPhase : ℕ → State
+erasedAtPhase p =
+    let x : Writer = record { phase = p; put = true; key = 6; group = 0; ts = 1; base = 0; value = 4294967295 } in
     withWriter (table (withInstants (inflight 0 ∷ []))) 0 x
 
 -- timestamp 1 is completed in group 0, and another writer holds it in group 1
@@ -361,20 +361,23 @@ traces =
     (startErased 8 32 8 ∷ startErased 1 32 8 ∷ does 1 (Start (Remove 32)) ∷ startErased 1 31 8 ∷ startErased 1 31 7 ∷ startErased 0 31 7
     ∷ does 1 (Start (Put 31 0 7)) ∷ does 0 (Start (Put 31 0 7)) ∷ does 1 Index ∷ does 2 Index ∷ [])
     gives 10 ∷ 12 ∷ 12 ∷ 13 ∷ 18 ∷ 18 ∷ 14 ∷ 15 ∷ 14 ∷ 16 ∷ [])
-    -- the erased word: put by a ready writer, and by one at phase 1; with no such group, key and writer; the largest value but one; its lowest bits alone
+    -- the erased word: put by a ready writer, and by one at phase 1; with no such group, key and writer; the largest value but one; some of its bits alone
     ∷ (answers fresh
     (does 1 (Start (Put 1 10 1)) ∷ startErased 0 0 0 ∷ startErased 1 0 0 ∷ startErased 0 0 8 ∷ startErased 0 32 0 ∷ startErased 8 0 0
-    ∷ does 0 (Start (Put 0 4294967294 0)) ∷ does 2 (Start (Put 0 65535 0)) ∷ [])
-    gives 0 ∷ 18 ∷ 18 ∷ 13 ∷ 12 ∷ 10 ∷ 0 ∷ 0 ∷ [])
+    ∷ does 0 (Start (Put 0 4294967294 0)) ∷ does 2 (Start (Put 0 65535 0)) ∷ does 3 (Start (Put 0 2147483647 0)) ∷ [])
+    gives 0 ∷ 18 ∷ 18 ∷ 13 ∷ 12 ∷ 10 ∷ 0 ∷ 0 ∷ 0 ∷ [])
     -- its refusal changes nothing in the table or in the history, for a ready writer and for one at phase 1
     ∷ (stands fresh (startErased 0 0 0 ∷ []) 0 0 gives 0 ∷ 0 ∷ 0 ∷ readyNumbers)
     ∷ (stands fresh (does 0 (Start (Put 5 55 3)) ∷ startErased 0 0 0 ∷ []) 0 5 gives 1 ∷ 0 ∷ 0 ∷ writerNumbers (busy 1 5 3 1 0))
     ∷ (history (does 0 (Start (Put 5 55 3)) ∷ startErased 0 0 0 ∷ startErased 1 0 0 ∷ []) gives 1 ∷ pendingOperation 1 (Put 5 55 3) ++ idle 7)
-    -- a log codes it and reads it, and only the start is refused: a table that has it already, which no run reaches, keeps it
+    -- a log codes it and reads it
     ∷ (written (startErased 0 1 2 ∷ []) 10 0 gives 0 ∷ 9 ∷ startErasedLog ++ 99 ∷ [])
     ∷ (readRecord startErasedLog 0 gives 0 ∷ 9 ∷ 0 ∷ 1 ∷ 1 ∷ 4294967295 ∷ 2 ∷ [])
     ∷ (ran (ofLog startErasedLog) 2 gives 0 ∷ 1 ∷ 9 ∷ 18 ∷ 99 ∷ [])
-    ∷ (scanned writingErased (does 0 Write ∷ does 0 Index ∷ does 0 Check ∷ does 0 Commit ∷ []) 1 3 gives 0 ∷ 1 ∷ 6 ∷ 4294967295 ∷ 0 ∷ [])
+    -- only the start of its put is refused: a writer that has it already, which no run reaches, goes on, gives up and starts as any other
+    ∷ (scanned (erasedAtPhase 1) (restOf 0) 1 3 gives 0 ∷ 1 ∷ 6 ∷ 4294967295 ∷ 0 ∷ [])
+    ∷ (eachAnswer (erasedAtPhase 0) gives 0 ∷ 14 ∷ 14 ∷ 14 ∷ 14 ∷ 14 ∷ 14 ∷ 14 ∷ [])
+    ∷ (eachAnswer (erasedAtPhase 1) gives 14 ∷ 0 ∷ 14 ∷ 14 ∷ 14 ∷ 14 ∷ 14 ∷ 6 ∷ [])
     -- writers, keys and groups whose lowest bits name one
     ∷ (answers fresh
     (does 256 (Start (Put 0 0 0)) ∷ does 0 (Start (Put 256 0 0)) ∷ does 0 (Start (Remove 65536)) ∷ does 0 (Start (Put 0 0 256)) ∷ [])
@@ -414,6 +417,8 @@ traces =
     ∷ (onParts (atLargestBut 64 (λ s. withLast s 65)) (does 0 Abort) gives 17 ∷ [])
     ∷ (onParts (withWriter (atLargest 63) 0 (busy 7 31 7 63 63)) (does 1 Abort) gives 6 ∷ [])
     ∷ (onParts (atLargestBut 63 (λ s. withLock s 9)) (does 0 Abort) gives 6 ∷ [])
+    -- 17 before the rule's own refusals
+    ∷ (answers (atLargestBut 64 (λ s. withLast s 65)) (startErased 0 32 8 ∷ startErased 0 31 7 ∷ does 0 Abort ∷ []) gives 17 ∷ 17 ∷ 17 ∷ [])
     -- out of range by one number: the last timestamp; the lock
     ∷ (judged (atLargestBut 64 (λ s. withLast s 65)) gives outOfRangeNumbers)
     ∷ (judged (atLargestBut 63 (λ s. withLock s 9)) gives outOfRangeNumbers)

@@ -1,4 +1,5 @@
--- `start` follows its rule: by the tests of the rule, which have the values that the branches show. In each answer t is where they have been made.
+-- `start` follows its rule: by the tests of the rule, which have the values that the branches show. In each answer t is the place where the first four
+-- tests have been made, and u that behind the branch on the fourth.
 use borrow.Author.Tests.{le-leb, lt-leb, leb-false}
 use Rattle.model.specs.Rules.{start}
 use borrow.Author.Needs.{needs}
