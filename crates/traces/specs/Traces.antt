@@ -139,7 +139,7 @@ removing phase key group ts base = record { phase = phase; put = false; key = ke
 abbrev atPhase : ℕ → State
 atPhase p = withWriter (table (withInstants (inflight 0 ∷ []))) 0 (busy p 0 0 1 0)
 
--- the same, with the erased word as its value
+-- writer 0 stands at a phase with the erased word as its value
 abbrev erasedAtPhase : ℕ → State
 erasedAtPhase p =
     let x : Writer = record { phase = p; put = true; key = 6; group = 0; ts = 1; base = 0; value = 4294967295 } in
