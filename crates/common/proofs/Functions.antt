@@ -1,5 +1,5 @@
 -- Functions of numbers that are changed at one place, and lists read as such functions.
--- `upd-same`, `upd-other`, `upd-ind`, `upd-id` and `map-upd` are the laws of `upd`;
+-- `upd-same`, `upd-other`, `upd-ind`, `upd-some`, `upd-none`, `upd-id` and `map-upd` are the laws of `upd`;
 -- `getD-upd` says that a list set at a place is its function updated there.
 use Prim.Native.Nat.{ℕ, zero, suc, _<_}
 use mathlib.Core.Path.{_≡_, refl, sym, subst, fun-ext}
@@ -36,6 +36,14 @@ module _ {A : Type 0} (f : ℕ → A) (i : ℕ) (x : A) where
 
   pub upd-id : f i ≡ x → upd f i x ≡ f
   upd-id e = fun-ext (upd-ind (λ j y. y ≡ f j) (sym e) (λ j ne. refl))
+
+-- what holds of every value that there is, also where another is put in or one taken out
+module _ {A : Type 0} (P : A → Type 0) (f : ℕ → Option A) (i : ℕ) (h : (j : ℕ) (a : A) → f j ≡ some a → P a) where
+  pub upd-some : (x : A) → P x → (j : ℕ) (a : A) → upd f i (some x) j ≡ some a → P a
+  upd-some x p j a = upd-ind f i (some x) (λ j o. o ≡ some a → P a) (λ e. subst P (some-inj refl e) p) (λ j ne. h j a) j
+
+  pub upd-none : (j : ℕ) (a : A) → upd f i none j ≡ some a → P a
+  upd-none j a = upd-ind f i none (λ j o. o ≡ some a → P a) (λ e. absurd (none-some refl e)) (λ j ne. h j a) j
 
 pub map-upd : {A B : Type 0} (g : A → B) (f : ℕ → A) (i : ℕ) (x : A) → (λ (j : ℕ). g (upd f i x j)) ≡ upd (λ (j : ℕ). g (f j)) i (g x)
 map-upd {B} g f i x =

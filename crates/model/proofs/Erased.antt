@@ -9,7 +9,7 @@ use mathlib.Core.List.{List, _∷_, List·Memᴰ, List·Memᴰ·head, List·Mem�
 use mathlib.Core.Option.{Option, none, some}
 use borrow.Author.Tests.{eqb-false}
 use Rattle.common.specs.Counting.{upd}
-use Rattle.common.proofs.Functions.{none-some, some-inj, upd-ind}
+use Rattle.common.proofs.Functions.{none-some, upd-some, upd-none}
 use Rattle.common.proofs.ListBelow.{each-listed}
 use Rattle.model.specs.Limits.{keys, erasedWord}
 use Rattle.model.specs.Rules.{putsErased}
@@ -36,14 +36,9 @@ module _ (v : View) (w : ℕ) (h : Unerased (v .history)) where
   abbrev UnerasedIn : View → Type 0
   UnerasedIn n = Unerased (n .history)
 
-  -- writer w has another operation in progress, or none
-  pending-but : (o : Option Pending) → ((p : Pending) → o ≡ some p → putsErased (p .operation) ≡ false)
-      → (u : ℕ) (p : Pending) → upd (v .history .pending) w o u ≡ some p → putsErased (p .operation) ≡ false
-  pending-but o f u p =
-      upd-ind (v .history .pending) w o (λ u q. q ≡ some p → putsErased (p .operation) ≡ false) (f p) (λ u ne. h .pending u p) u
-
-  none-pending : (p : Pending) → none ≡ some p → putsErased (p .operation) ≡ false
-  none-pending p e = absurd (none-some refl e)
+  -- writer w's operation is no longer pending
+  pending-without : (u : ℕ) (p : Pending) → upd (v .history .pending) w none u ≡ some p → putsErased (p .operation) ≡ false
+  pending-without = upd-none (λ p. putsErased (p .operation) ≡ false) (v .history .pending) w (h .pending)
 
   move-unerased : (n : View) → Move v w n → Unerased (n .history)
   unfolding startRecorded commitRecorded endRecorded
@@ -51,13 +46,13 @@ module _ (v : View) (w : ℕ) (h : Unerased (v .history)) where
   move-unerased n (starts op unerased at e) =
       subst⁻¹ UnerasedIn e
       (record {
-        pending = pending-but _ (λ p q. ap (λ (p : Pending). putsErased (p .operation)) (some-inj q refl) ∙ unerased);
+        pending = upd-some (λ p. putsErased (p .operation) ≡ false) (v .history .pending) w (h .pending) _ unerased;
         committed = h .committed;
       })
   move-unerased n (continues p e) = subst⁻¹ UnerasedIn e h
-  move-unerased n (ends e) = subst⁻¹ UnerasedIn e (record { pending = pending-but none none-pending; committed = h .committed })
+  move-unerased n (ends e) = subst⁻¹ UnerasedIn e (record { pending = pending-without; committed = h .committed })
   move-unerased n (commits p at is e) =
-      subst⁻¹ UnerasedIn e (record { pending = pending-but none none-pending; committed = joined })
+      subst⁻¹ UnerasedIn e (record { pending = pending-without; committed = joined })
     where
       joined : (c : Committed) → List·Memᴰ c (record { operation = p .operation; ts = p .ts; group = v .writer w .group } ∷ v .history .done)
           → putsErased (c .operation) ≡ false

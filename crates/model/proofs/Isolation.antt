@@ -13,7 +13,7 @@ use Rattle.model.specs.History.{Pending, History, empty, startRecorded, 
 use Rattle.model.specs.Isolation.{Execution, executed, beginning, after, Isolated}
 use Rattle.model.specs.declared.Writer.{Writer}
 use Rattle.model.specs.declared.Step.{Step}
-use Rattle.common.proofs.Functions.{none-some, some-inj, upd-ind, getD-fresh}
+use Rattle.common.proofs.Functions.{none-some, upd-some, upd-none, getD-fresh}
 use Rattle.model.proofs.CompletedInstants.{groupCompleted, completedAt}
 use Rattle.model.proofs.Executed.{executed-keeps, executed-append}
 use Rattle.model.proofs.RangeKept.{fresh-in-range}
@@ -72,8 +72,7 @@ module _ (t : ℕ) (h : History) (v : View) (w : ℕ) (s : Settled t h (v .histo
 
   -- writer w's operation is no longer pending
   later-without : (u : ℕ) (p : Pending) → upd (v .history .pending) w none u ≡ some p → t < p .ts
-  later-without u p =
-      upd-ind (v .history .pending) w none (λ u o. o ≡ some p → t < p .ts) (λ e. absurd (none-some refl e)) (λ u ne. s .later u p) u
+  later-without = upd-none (λ p. t < p .ts) (v .history .pending) w (s .later)
 
   move-settled : (n : View) → Move v w n → Settled t h (n .history)
   unfolding startRecorded endRecorded commitRecorded
@@ -82,10 +81,7 @@ module _ (t : ℕ) (h : History) (v : View) (w : ℕ) (s : Settled t h (v .histo
       subst⁻¹ SettledIn e
       (record {
         issued = omega (arith, s .issued);
-        later =
-            λ u p.
-            upd-ind (v .history .pending) w _ (λ u o. o ≡ some p → t < p .ts)
-            (λ q. omega (arith, s .issued, ap (λ (o : Pending). o .ts) (some-inj refl q))) (λ u ne. s .later u p) u;
+        later = upd-some (λ p. t < p .ts) (v .history .pending) w (s .later) _ (omega (arith, s .issued));
         same = s .same;
       })
   move-settled n (continues p e) = subst⁻¹ SettledIn e s

@@ -128,22 +128,27 @@ table s = record { shared = s; writers = replicate 8 ready }
 abbrev withWriter : State → ℕ → Writer → State
 withWriter st w x = record { shared = st .shared; writers = set (st .writers) w x }
 
--- a writer with a put of 55, and one with a remove, in progress
+-- a writer with a put in progress, with one of 55, and with a remove
+abbrev putting : ℕ → ℕ → ℕ → ℕ → ℕ → ℕ → Writer
+putting value phase key group ts base = record { phase = phase; put = true; key = key; group = group; ts = ts; base = base; value = value }
+
 abbrev busy : ℕ → ℕ → ℕ → ℕ → ℕ → Writer
-busy phase key group ts base = record { phase = phase; put = true; key = key; group = group; ts = ts; base = base; value = 55 }
+busy = putting 55
 
 abbrev removing : ℕ → ℕ → ℕ → ℕ → ℕ → Writer
 removing phase key group ts base = record { phase = phase; put = false; key = key; group = group; ts = ts; base = base; value = 0 }
 
+-- timestamp 1 is inflight in group 0, and writer 0 is x
+abbrev oneInflight : Writer → State
+oneInflight x = withWriter (table (withInstants (inflight 0 ∷ []))) 0 x
+
 -- writer 0 stands at a phase, the others are ready
 abbrev atPhase : ℕ → State
-atPhase p = withWriter (table (withInstants (inflight 0 ∷ []))) 0 (busy p 0 0 1 0)
+atPhase p = oneInflight (busy p 0 0 1 0)
 
--- writer 0 stands at a phase with the erased word as its value
+-- the same, where its value is the erased word
 abbrev erasedAtPhase : ℕ → State
-erasedAtPhase p =
-    let x : Writer = record { phase = p; put = true; key = 6; group = 0; ts = 1; base = 0; value = 4294967295 } in
-    withWriter (table (withInstants (inflight 0 ∷ []))) 0 x
+erasedAtPhase p = oneInflight (putting 4294967295 p 0 0 1 0)
 
 -- timestamp 1 is completed in group 0, and another writer holds it in group 1
 abbrev otherGroupsTimestamp : State
@@ -155,7 +160,7 @@ otherGroupsBase = withWriter (table (withEntry (withRow 1 1 5 7 (withInstants (c
 
 -- writers 0 and 1 hold timestamp 1, in two groups
 abbrev oneTimestamp : State
-oneTimestamp = withWriter (withWriter (table (withInstants (inflight 0 ∷ []))) 0 (busy 3 2 0 1 0)) 1 (busy 3 5 1 1 0)
+oneTimestamp = withWriter (oneInflight (busy 3 2 0 1 0)) 1 (busy 3 5 1 1 0)
 
 -- two groups show one key
 abbrev oneKeyTwice : State
@@ -325,7 +330,7 @@ traces =
     ∷ (stands fresh secondPut 2 6 gives 2 ∷ 0 ∷ 4 ∷ readyNumbers)
     -- a remove carries no value and no group before its look up, and its index step enters nothing
     ∷ (stands fresh (does 2 (Start (Remove 6)) ∷ []) 2 6 gives 1 ∷ 0 ∷ 0 ∷ writerNumbers (removing 1 6 0 1 0))
-    ∷ (stands (withWriter (table (withInstants (inflight 0 ∷ []))) 0 (removing 4 6 0 1 0)) (does 0 Index ∷ []) 0 6
+    ∷ (stands (oneInflight (removing 4 6 0 1 0)) (does 0 Index ∷ []) 0 6
     gives 1 ∷ 1 ∷ 0 ∷ writerNumbers (removing 5 6 0 1 0))
     -- after an ending the writer is ready: 5, 4, 3 and 2; it frees its own lock and no other's
     ∷ (stands fresh (p5 0 1) 1 1 gives 2 ∷ 0 ∷ 1 ∷ readyNumbers)
@@ -375,7 +380,7 @@ traces =
     ∷ (readRecord startErasedLog 0 gives 0 ∷ 9 ∷ 0 ∷ 1 ∷ 1 ∷ 4294967295 ∷ 2 ∷ [])
     ∷ (ran (ofLog startErasedLog) 2 gives 0 ∷ 1 ∷ 9 ∷ 18 ∷ 99 ∷ [])
     -- only the start of its put is refused: a writer that has it already, which no run reaches, goes on, gives up and starts as any other
-    ∷ (scanned (erasedAtPhase 1) (restOf 0) 1 3 gives 0 ∷ 1 ∷ 6 ∷ 4294967295 ∷ 0 ∷ [])
+    ∷ (scanned (erasedAtPhase 1) (restOf 0) 1 3 gives 0 ∷ 1 ∷ 0 ∷ 4294967295 ∷ 0 ∷ [])
     ∷ (eachAnswer (erasedAtPhase 0) gives 0 ∷ 14 ∷ 14 ∷ 14 ∷ 14 ∷ 14 ∷ 14 ∷ 14 ∷ [])
     ∷ (eachAnswer (erasedAtPhase 1) gives 14 ∷ 0 ∷ 14 ∷ 14 ∷ 14 ∷ 14 ∷ 14 ∷ 6 ∷ [])
     -- writers, keys and groups whose lowest bits name one
