@@ -1,6 +1,6 @@
 #!/usr/bin/env python3
-"""Write what the programs stories, calls, encoding, reading, tables and
-out_of_range have to print.
+"""Write what the programs stories, calls, encoding, reading, tables,
+out_of_range and searches have to print.
 
     python3 tests/model/make_stories.py CRATES
 
@@ -13,6 +13,7 @@ from the programs.
 from __future__ import annotations
 
 import copy
+import itertools
 import sys
 from collections.abc import Iterator, Sequence
 from dataclasses import replace
@@ -38,8 +39,10 @@ from table_model import (
     Stop,
     Table,
     Writer,
+    conflict_search,
     encode,
     encode_number,
+    latest_completed,
     read_record,
     run_log,
     write_log,
@@ -713,6 +716,89 @@ def grounds() -> Iterator[str]:
     yield from played(table, 1, 1, ("a put", whole(0, Put(1, 10, 1))))
 
 
+# --- The program searches ----------------------------------------------------
+
+
+def search_line(
+    timeline: dict[int, Instant], group: int, base: int, last: int
+) -> str:
+    hit, looked_at = conflict_search(timeline, group, base, last)
+    found = "no hit" if hit is None else f"hit {hit}"
+    newest = latest_completed(timeline, group, last)
+    return (
+        f"group {group} from {last} down to {base}: "
+        f"{found}, looked at {looked_at}; newest {newest}"
+    )
+
+
+def instant_number_line(timeline: dict[int, Instant], at: int) -> str:
+    """The one number that the engine keeps an instant as."""
+    state, group = timeline.get(at, Instant(State.NONE))
+    match state:
+        case State.NONE:
+            number = 0
+        case State.REQUESTED:
+            number = 1
+        case State.INFLIGHT:
+            number = 2 + group
+        case State.COMPLETED:
+            number = 2 + GROUPS + group
+    return f"instant {at}: {number}"
+
+
+def timeline_of(*instants: Instant) -> dict[int, Instant]:
+    return dict(enumerate(instants, 1))
+
+
+def searches() -> Iterator[str]:
+    """Searches of timelines that are set by hand."""
+    none, requested = Instant(State.NONE), Instant(State.REQUESTED)
+    timeline = timeline_of(
+        completed(0),
+        completed(1),
+        requested,
+        completed(1),
+        completed(3),
+        completed(1),
+        completed(0),
+        inflight(1),
+    )
+    yield "== Every base and last timestamp up to 9"
+    for group, base, last in itertools.product(range(4), range(10), range(10)):
+        yield search_line(timeline, group, base, last)
+    yield "== Last timestamps and bases past the end"
+    for group, base, last in (
+        *((1, 5, 255), (1, 6, 255), (2, 0, 255), (0, 0, 64), (1, 64, 65)),
+        *((1, 254, 255), (1, 255, 255), (1, 255, 0)),
+    ):
+        yield search_line(timeline, group, base, last)
+
+    full = MAX_TIMESTAMP
+    timeline = timeline_of(*[requested] * full)
+    timeline |= dict.fromkeys((1, 9, full), completed(7))
+    yield "== As many instants as a table has"
+    for group, base, last in (
+        *((7, 0, full), (7, 9, full), (7, 9, 255), (7, full, full)),
+        *((7, 0, full - 1), (7, 9, full - 1), (7, 0, 8), (6, 0, full)),
+    ):
+        yield search_line(timeline, group, base, last)
+
+    timeline = timeline_of(completed(245), none, inflight(7))
+    yield "== File groups that do not exist"
+    for group, base in ((244, 0), (245, 0), (245, 1), (246, 0), (255, 0)):
+        yield search_line(timeline, group, base, 3)
+
+    timeline = timeline_of(completed(7), requested, completed(245))
+    yield "== The instants of a short timeline"
+    for at in (0, 1, 2, 3, 4, 2**8 + 1, 2**32 + 1, NEVER_ISSUED):
+        yield instant_number_line(timeline, at)
+
+    yield "== An empty timeline"
+    yield search_line({}, 0, 0, 3)
+    yield search_line({}, 0, 2, 5)
+    yield instant_number_line({}, 1)
+
+
 PROGRAMS = {
     "stories": (examples, traces),
     "calls": (calls,),
@@ -720,6 +806,7 @@ PROGRAMS = {
     "reading": (reading,),
     "tables": (hand_set,),
     "out_of_range": (grounds,),
+    "searches": (searches,),
 }
 
 

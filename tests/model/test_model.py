@@ -8,6 +8,7 @@ requests of document 02 that are built.
 from __future__ import annotations
 
 import copy
+import random
 import unittest
 from collections.abc import Sequence
 
@@ -29,12 +30,14 @@ from table_model import (
     Remove,
     Row,
     Run,
+    Search,
     State,
     Step,
     Stop,
     Table,
     Writer,
     coded_size,
+    conflict_search,
     encode,
     encode_number,
     encode_step,
@@ -373,6 +376,41 @@ class Walk(TableTest):
                     self.table = Table()
                     self.take(*steps[:taken])
                     self.assertEqual(self.take(other) == [14], not fits)
+
+
+class ConflictSearch(unittest.TestCase):
+    """Document 02's Q-2."""
+
+    def test_hit_and_count(self) -> None:
+        completed = Instant(State.COMPLETED, 1)
+        for base, completions, expected in (
+            (1, (2, 4), Search(4, 3)),
+            (1, (), Search(None, 5)),
+            (3, (3,), Search(None, 3)),
+            (6, (2, 4), Search(None, 0)),
+            (7, (2, 4), Search(None, 0)),
+        ):
+            with self.subTest(base=base, completions=completions):
+                timeline = dict.fromkeys(range(1, 7), REQUESTED)
+                timeline |= dict.fromkeys(completions, completed)
+                self.assertEqual(conflict_search(timeline, 1, base, 6), expected)
+
+    def test_first_sentence(self) -> None:
+        """It looks "from the last issued timestamp down" and leaves "at the first
+        hit or at the base".
+        """
+        draw = random.Random(2)
+        instants = REQUESTED, *(Instant(State.COMPLETED, group) for group in range(3))
+        for _ in range(1000):
+            timeline = {ts: draw.choice(instants) for ts in range(1, draw.randrange(12))}
+            base, last = draw.randrange(12), draw.randrange(12)
+            hit, looked_at = None, 0
+            for timestamp in range(last, base, -1):
+                looked_at += 1
+                if timeline.get(timestamp) == instants[2]:
+                    hit = timestamp
+                    break
+            self.assertEqual(conflict_search(timeline, 1, base, last), (hit, looked_at))
 
 
 class Refusals(TableTest):

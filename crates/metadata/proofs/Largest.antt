@@ -16,7 +16,7 @@ use Rattle.common.specs.Counting.{eachBelow}
 use Rattle.model.specs.State.{completed}
 use Rattle.model.specs.Range.{indexInRange, instantsInRange, noneAbove}
 use Rattle.common.proofs.EachBelow.{below-same, below-first}
-use Rattle.metadata.specs.Inner.{largest}
+use Rattle.metadata.specs.Largest.{largest}
 
 module _ (xs : List ℕ) (most i : ℕ) where
   pub largest-next : i < length xs → max (max most (getD xs i 0)) (largest (drop (i + 1) xs)) ≡ max most (largest (drop i xs))

@@ -1,2 +1,3 @@
 pub mod Largest
-pub mod Newest
+pub mod Looking
+pub mod Search

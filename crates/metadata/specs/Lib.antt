@@ -1,3 +1,4 @@
 pub mod Actor
 pub mod Parts
-pub mod Inner
+pub mod Largest
+pub mod Search

@@ -5,4 +5,7 @@ mod timeline;
 pub use range::actor_in_range;
 pub use range::in_range;
 pub use range::parts_in_range;
+pub use timeline::Search;
+pub use timeline::instant_of;
+pub use timeline::newest_above;
 pub use timeline::newest_of;

@@ -7,7 +7,7 @@ ghost use lib.ListN.{drop};
 ghost use Rattle.model.specs.State.{State, stateOf};
 ghost use Rattle.model.specs.Range.{writerInRange, writersInRange, inRange};
 ghost use Rattle.metadata.specs.Actor.{actorInRange};
-ghost use Rattle.metadata.specs.Inner.{largest};
+ghost use Rattle.metadata.specs.Largest.{largest};
 ghost use Rattle.metadata.specs.Parts.{withParts};
 use model::Table;
 use model::Writer;

@@ -11,7 +11,7 @@ pub fn text(s: &[u8]) {
 }
 
 // A number, behind a space.
-fn number(n: u64) {
+pub fn number(n: u64) {
     text(b" ");
     io::print_decimal(STDOUT_FILENO, n);
 }

@@ -10,6 +10,8 @@ ghost use Rattle.model.specs.Rules as rules;
 ghost use Rattle.rules.specs.Fields.{noField, reading, changing, together, allFields};
 ghost use Rattle.rules.specs.Inner.{Bounds, Follows, CarriesOut};
 use common::Word;
+use metadata::Search;
+use metadata::newest_above;
 use metadata::newest_of;
 use model::Action;
 use model::Operation;
@@ -277,10 +279,13 @@ fn check_conflict(x: Writer, last: u8, timeline: &[u8; TIMESTAMPS]) -> Verdict
     if x.phase != 5 {
         return Verdict::Refused(WRONG_PHASE);
     }
-    if x.base < newest_of(timeline, x.group, last) {
-        return Verdict::Ended(GROUP_CHANGED);
+    match newest_above(timeline, x.group, x.base, last) {
+        Search::Hit {
+            ts: _,
+            looked_at: _,
+        } => Verdict::Ended(GROUP_CHANGED),
+        Search::NoHit { looked_at: _ } => Verdict::GoesOn(moved(x, 6, x.group, x.base)),
     }
-    Verdict::GoesOn(moved(x, 6, x.group, x.base))
 }
 
 // 7. Commit: the instant is completed, and readers see its slice.

@@ -1,10 +1,9 @@
 -- The pass down the timeline that finds the newest slice of each file group: `Passed` is the loop's invariant, with one law for each way round it.
 --     pass-none, pass-open, pass-old, pass-new, pass-end, pass-full    the laws of `Passed`
 --     pass-group, pass-missing    a completed instant names a file group, and one found first is among those missing
---     instant-slot, instant-above    where an instant stands, and that none stands above the end
 use Prim.Native.Nat.{ℕ, zero, suc, _+_, _-_, _<_, _≤_, min}
 use native.Mathlib.Nat.{eq-zero-or-pos}
-use native.Mathlib.Decide.{ℕ-discrete}
+use native.Mathlib.Decide.{ℕ-discrete, decLe}
 use native.Mathlib.Numerals.{add-one}
 use native.Mathlib.Omega.{arith}
 use mathlib.Core.Logic.{by-cases, ⊎-elim}
@@ -14,22 +13,22 @@ use lib.ListN.{getD, set, length, length-set, replicate, getD-replicate, List·g
 use lib.Seq.{getD-set-same, getD-set-other}
 use Rattle.model.specs.Limits.{groups, timestamps}
 use Rattle.model.specs.State.{newest, completed}
-use Rattle.model.specs.Snapshot.{instantOf}
 use Rattle.model.proofs.CompletedInstants.{newest-hit, newest-miss, newest-of}
-use Rattle.metadata.proofs.Newest.{newest-min}
 use Rattle.snapshot.specs.Inner.{Coded, NewestSlices}
 
-module _ (timeline : List ℕ) where
-  pub instant-slot : (n : ℕ) → 0 < n → instantOf timeline n ≡ getD timeline (n - 1) 0
-  instant-slot zero h = absurd (omega arith)
-  instant-slot (suc n) h = let e : suc n - 1 ≡ n = omega arith in rw e
+module _ (timeline : List ℕ) (g : ℕ) where
+  -- no timestamp above the timeline's end counts
+  above-end : (n : ℕ) → length timeline ≤ n → newest timeline g (suc n) ≡ newest timeline g n
+  above-end n l = let z = List·getD-eq-default timeline 0 {n = n} l in newest-miss timeline g n (λ q. omega arith)
 
-  pub instant-above : (n : ℕ) → length timeline < n → instantOf timeline n ≡ 0
-  instant-above n l = instant-slot n (omega arith) ∙ List·getD-eq-default timeline 0 {n = n - 1} (omega arith)
+  newest-min : (m n : ℕ) → length timeline ≤ m → newest timeline g n ≡ newest timeline g (min n m)
+  newest-min m zero l = let e : min 0 m ≡ 0 = omega arith in rw e
+  newest-min m (suc n) l =
+      by-cases (decLe (suc n) m) (λ h. let e : min (suc n) m ≡ suc n = omega arith in rw e)
+      (λ h. let e : min n m ≡ min (suc n) m = omega arith in above-end n (omega arith) ∙ newest-min m n l ∙ ap (newest timeline g) e)
 
-  module _ (g : ℕ) where
-    newest-within : (n : ℕ) → length timeline ≤ timestamps → newest timeline g n ≤ timestamps
-    newest-within n l = rw (newest-min timeline g timestamps n l) (omega (arith, newest-of timeline g (min n timestamps) .below))
+  newest-within : (n : ℕ) → length timeline ≤ timestamps → newest timeline g n ≤ timestamps
+  newest-within n l = rw (newest-min timestamps n l) (omega (arith, newest-of timeline g (min n timestamps) .below))
 
 -- how many numbers are 0
 abbrev pub zeros : List ℕ → ℕ

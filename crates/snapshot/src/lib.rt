@@ -7,10 +7,11 @@ ghost use mathlib.Core.Bool.{Bool};
 ghost use mathlib.Core.List.{List};
 ghost use Prim.Native.Nat.{ℕ};
 ghost use Rattle.model.specs.State.{stateOf};
-ghost use Rattle.model.specs.Snapshot.{unlisted, scan, pointRead, foundNumbers, instantOf, instantState, instantAt, instantNumbers};
+ghost use Rattle.model.specs.Snapshot.{unlisted, scan, pointRead, foundNumbers, instantState, instantAt, instantNumbers};
 ghost use Rattle.model.specs.Calls.{stateBefore, scanned};
 use common::Word;
 use metadata::in_range;
+use metadata::instant_of;
 use model::Found;
 use model::InstantState;
 use model::Scanned;
@@ -26,7 +27,6 @@ use model::instants::NONE;
 use model::instants::REQUESTED;
 use model::limits::KEYS;
 use model::limits::ROWS;
-use model::limits::TIMESTAMPS;
 
 // A scan that is refused: it counts no row and leaves the buffer as it is.
 fn refused(answer: u8, buffer: &mut [Word]) -> Scanned
@@ -78,20 +78,6 @@ pub fn read(t: Table, present: &[bool; ROWS], values: &[Value; ROWS], at: u64, k
     rows::first_row(slices, present, values, key as usize)
 }
 
-// The instant of a timestamp, or none.
-fn instant_of(timeline: [u8; TIMESTAMPS], at: u64) -> u8
-    ensures { λ r. ⌜ r ≡ instantOf timeline at ⌝ }
-{
-    if at == 0 {
-        return NONE;
-    }
-    if at > TIMESTAMPS as u64 {
-        return NONE;
-    }
-    let slot = (at - 1) as usize;
-    timeline[slot]
-}
-
 // What an instant's number means.
 fn state_of(instant: u8) -> InstantState
     ensures { λ r. ⌜ r ≡ instantState instant ⌝ }
@@ -116,5 +102,5 @@ pub fn instant(t: Table, at: u64) -> InstantState
         return InstantState::Refused(OUT_OF_RANGE);
     }
     let timeline = t.timeline;
-    state_of(instant_of(timeline, at))
+    state_of(instant_of(&timeline, at))
 }

@@ -18,6 +18,9 @@ use Rattle.model.specs.declared.Operation.the-variants.{Put, Remove}
 use Rattle.model.specs.declared.Action.{Action}
 use Rattle.model.specs.declared.Action.the-variants.{Start, LookUp, Read, Write, Index, Check, Commit, Abort}
 use Rattle.model.specs.declared.Step.{Step}
+use Rattle.metadata.specs.Search.{newestAbove}
+use Rattle.metadata.specs.declared.timeline.Search.{Search}
+use Rattle.metadata.specs.declared.timeline.Search.the-variants.{Hit, NoHit}
 use Rattle.steplog.specs.Records.{recordAt, recordNumbers}
 use Rattle.steplog.specs.Writing.{LogWritten, logWritten}
 use Rattle.run.specs.Runs.{Input, Run, runOf}
@@ -40,6 +43,7 @@ pub data Case : Type 0 where
   history : List Step → Case  -- the history of steps on a fresh table
   stored : List Step → ℕ → ℕ → Case  -- what the write steps among steps on a fresh table stored under a timestamp, of a key
   onParts : State → Step → Case  -- the answer of `rules::act` to a caller who says that the table is in range, whether it is or not
+  searched : List ℕ → ℕ → ℕ → ℕ → Case  -- the search of a timeline for hits of a file group, above a base and up to a last timestamp
   judged : State → Case  -- a step of writer 8, a read of key 32, a scan with too little room, and the instant of timestamp 1
 
 -- the answer of the log writer, its byte count and the buffer
@@ -103,6 +107,11 @@ committedNumbers (c ∷ cs) = committedOperation (c .ts) (c .group) (c .operatio
 abbrev pub historyNumbers : History → List ℕ
 historyNumbers h = h .last ∷ listBelow 8 (λ w. pendingNumbers (h .pending w)) ++ committedNumbers (h .done)
 
+-- what a search of the timeline gives: 0 for no hit, or 1 and the hit; then the count of the timestamps looked at
+abbrev pub searchNumbers : Search → List ℕ
+searchNumbers (NoHit n) = 0 ∷ n ∷ []
+searchNumbers (Hit t n) = 1 ∷ t ∷ n ∷ []
+
 -- a table after steps
 abbrev pub afterSteps : State → List Step → State
 afterSteps st ss = foldl (commitMachine .after) st ss
@@ -133,6 +142,7 @@ result (instants st ss ts) = instantsNumbers (afterSteps st ss) ts
 result (history ss) = historyNumbers (after ss .history)
 result (stored ss n k) = valueNumbers (after ss .stored n k)
 result (onParts st s) = actOnParts true (writerOf st (slotOf (s .writer))) (st .shared) s .answer ∷ []
+result (searched timeline g base last) = searchNumbers (newestAbove timeline g base last)
 result (judged st) =
     step st (does 8 (Start (Put 32 0 8))) .answer
     ∷ foundNumbers (pointRead st 1 32) ++ listedNumbers (scan st 1 (replicate 2 99)) ++ instantNumbers (instantAt st 1)

@@ -1,6 +1,6 @@
 -- What the definitions give, in one table with one claim about all of it: document 01's traces (Traces to hold it to) that are marked P, and cases for
 -- what no law of the whole table says: the stops of numbers and records, the log writer's refusals, histories, instants, the grounds of 17 one by one,
--- the refusals in their order, the erased word (document 02, Q-3), tables that no run reaches.
+-- the refusals in their order, the erased word (document 02, Q-3), the search of the check and its count (Q-2), tables that no run reaches.
 use Prim.Native.Nat.{ℕ, _-_}
 use mathlib.Core.Path.{_≡_, refl}
 use mathlib.Core.Bool.{true, false}
@@ -23,12 +23,14 @@ use Rattle.model.specs.declared.Operation.{Operation}
 use Rattle.model.specs.declared.Operation.the-variants.{Put, Remove}
 use Rattle.model.specs.declared.Action.the-variants.{Start, LookUp, Read, Write, Index, Check, Commit, Abort}
 use Rattle.model.specs.declared.Step.{Step}
+use Rattle.metadata.specs.Largest.{largest}
+use Rattle.metadata.specs.Search.{upTo, newestAbove}
 use Rattle.steplog.specs.Records.{encodedStep, ofKind, argumentsBy, recordBy, recordNumbers}
 use Rattle.steplog.specs.Writing.{logWritten}
 use Rattle.run.specs.Runs.{ofLog, ofList, runFrom, runOf}
 use Rattle.traces.specs.Cases.{encode, decode, readRecord, written, ran, answers, eachAnswer, scanned, read, stands}
 use Rattle.rules.specs.Parts.{actOnParts}
-use Rattle.traces.specs.Cases.{onParts, place, rows, instants, history, stored, judged}
+use Rattle.traces.specs.Cases.{onParts, place, rows, instants, history, stored, searched, judged}
 use Rattle.traces.specs.Cases.{writerNumbers, pendingOperation, committedOperation, does, result, Trace, _gives_}
 
 -- a started operation carried out to its commit, from its look up on
@@ -119,6 +121,14 @@ withEntry s k e = withIndex s (set (s .index) k e)
 -- what writers share where these instants are issued, and nothing else is done
 abbrev withInstants : List ℕ → Shared
 withInstants is = withTimeline (withLast (fresh .shared) (length is)) (is ++ replicate (64 - length is) 0)
+
+-- eight instants: of those completed, 1 and 7 are in group 0, 2, 4 and 6 in group 1, and 5 is in group 3
+abbrev threeGroups : List ℕ
+threeGroups = completed 0 ∷ completed 1 ∷ requested ∷ completed 1 ∷ completed 3 ∷ completed 1 ∷ completed 0 ∷ inflight 1 ∷ []
+
+-- as many instants as a table has, the last of them completed in group 7
+abbrev lastCompleted : List ℕ
+lastCompleted = replicate 63 requested ++ completed 7 ∷ []
 
 -- all writers are ready
 abbrev table : Shared → State
@@ -350,6 +360,28 @@ traces =
     -- the last timestamp of all counts for a read and for a check
     ∷ (answers (withWriter (atLargest 64) 0 (busy 2 31 7 63 0)) (does 0 Read ∷ []) gives 3 ∷ [])
     ∷ (answers (withWriter (atLargest 64) 0 (busy 5 31 7 64 63)) (does 0 Check ∷ []) gives 5 ∷ [])
+    -- the search of the check: two hits above the base, none, one at the base only; a base equal to the last timestamp, and above it
+    ∷ (searched threeGroups 1 2 8 gives 1 ∷ 6 ∷ 3 ∷ [])
+    ∷ (searched threeGroups 2 2 8 gives 0 ∷ 6 ∷ [])
+    ∷ (searched threeGroups 3 5 8 gives 0 ∷ 3 ∷ [])
+    ∷ (searched threeGroups 1 8 8 gives 0 ∷ 0 ∷ [])
+    ∷ (searched threeGroups 1 9 8 gives 0 ∷ 0 ∷ [])
+    -- a hit at the last timestamp, right above the base, and at the first timestamp; hits above the last; an instant that is inflight
+    ∷ (searched threeGroups 1 0 6 gives 1 ∷ 6 ∷ 1 ∷ [])
+    ∷ (searched threeGroups 1 5 8 gives 1 ∷ 6 ∷ 3 ∷ [])
+    ∷ (searched threeGroups 0 0 6 gives 1 ∷ 1 ∷ 6 ∷ [])
+    ∷ (searched threeGroups 0 1 6 gives 0 ∷ 5 ∷ [])
+    ∷ (searched threeGroups 1 6 8 gives 0 ∷ 2 ∷ [])
+    -- the last timestamp of all is the hit, is not looked at, and is the base
+    ∷ (searched lastCompleted 7 0 64 gives 1 ∷ 64 ∷ 1 ∷ [])
+    ∷ (searched lastCompleted 7 0 63 gives 0 ∷ 63 ∷ [])
+    ∷ (searched lastCompleted 7 64 64 gives 0 ∷ 0 ∷ [])
+    -- a last timestamp, and a base, past the timeline's end; a file group that does not exist; no instant at all
+    ∷ (searched threeGroups 0 6 255 gives 1 ∷ 7 ∷ 249 ∷ [])
+    ∷ (searched threeGroups 2 0 255 gives 0 ∷ 255 ∷ [])
+    ∷ (searched threeGroups 0 9 255 gives 0 ∷ 246 ∷ [])
+    ∷ (searched (completed 245 ∷ requested ∷ []) 245 0 2 gives 1 ∷ 1 ∷ 2 ∷ [])
+    ∷ (searched [] 0 0 3 gives 0 ∷ 3 ∷ [])
     -- an index step that holds the lock already
     ∷ (stands (withWriter (table (withLock (withInstants (inflight 0 ∷ [])) 1)) 0 (busy 4 6 0 1 0)) (does 0 Index ∷ []) 0 6
     gives 1 ∷ 1 ∷ 1 ∷ writerNumbers (busy 5 6 0 1 0))
@@ -457,7 +489,7 @@ traces =
 pub traces-hold : map (λ (t : Trace). result (t .case)) traces ≡ map (λ (t : Trace). t .stated) traces
 unfolding traces result actOnParts encoded encodedIn decodedAt decodedIn decodedNumbers answersFrom executed next step stepTested ruled act
     start lookUp readBase writeSlice enterIndex checkConflict commit abort inRange eachBelow writersInRange indexInRange instantsInRange noneAbove
-    newest cell copied sliced fresh scan rowsAt numbers listBelow pointRead instantState instantAt
+    newest largest upTo newestAbove cell copied sliced fresh scan rowsAt numbers listBelow pointRead instantState instantAt
     upd empty startRecorded commitRecorded endRecorded recorded storedBy
     encodedStep ofKind argumentsBy recordBy recordNumbers logWritten pasted flatten runFrom runOf
 traces-hold = refl

@@ -5,7 +5,7 @@ use native.Mathlib.Nat.{zero-max}
 use mathlib.Core.Path.{_≡_, sym, _∙_}
 use lib.ListN.{length, drop}
 use borrow.Author.Needs.{needs}
-use Rattle.metadata.specs.Inner.{largest}
+use Rattle.metadata.specs.Largest.{largest}
 use Rattle.metadata.proofs.Largest.{largest-next, largest-end}
 use Rattle.metadata.proofs.range.largest.Statement.{statement}
 use Rattle.metadata.proofs.range.largest.Tie as tie
