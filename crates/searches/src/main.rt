@@ -45,17 +45,10 @@ fn search(timeline: &[u8], group: u8, base: u8, last: u8) {
     text(b"\n");
 }
 
-// From each last timestamp below an end.
-fn from_each(timeline: &[u8], group: u8, base: u8, end: u8) {
-    for last in 0..end {
-        search(timeline, group, base, last);
-    }
-}
-
-// Down to each base below an end.
-fn to_each(timeline: &[u8], group: u8, end: u8) {
-    for base in 0..end {
-        from_each(timeline, group, base, end);
+// Every base and last timestamp up to 9.
+fn search_all(timeline: &[u8], group: u8) {
+    for i in 0..100 {
+        search(timeline, group, i / 10, i % 10);
     }
 }
 
@@ -94,10 +87,10 @@ fn eight_instants() {
         INFLIGHT + 1,
     ];
     report::title(b"Every base and last timestamp up to 9");
-    to_each(&timeline, 0, 10);
-    to_each(&timeline, 1, 10);
-    to_each(&timeline, 2, 10);
-    to_each(&timeline, 3, 10);
+    search_all(&timeline, 0);
+    search_all(&timeline, 1);
+    search_all(&timeline, 2);
+    search_all(&timeline, 3);
     report::title(b"Last timestamps and bases past the end");
     search_each(&timeline, &[1, 5, 255, 1, 6, 255, 2, 0, 255, 0, 0, 64]);
     search_each(&timeline, &[1, 64, 65, 1, 254, 255, 1, 255, 255, 1, 255, 0]);
