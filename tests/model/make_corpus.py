@@ -83,17 +83,19 @@ class Draw:
 class Profile:
     """How a random walk chooses its steps.
 
-    A walk goes on with the same writer with chance ``same_writer``; if
-    ``uneven``, writers with high numbers come seldom. A writer that would meet
-    a held lock tries nevertheless with chance ``stall``, else the holder goes
-    on. A step fits the writer's phase with chance ``fit``, and gives up with
-    chance ``give_up``. Successive starts share a key while ``starts_per_key``
+    The first ``writers`` writers take part. A walk goes on with the same
+    writer with chance ``same_writer``; if ``uneven``, writers with high
+    numbers come seldom. A writer that would meet a held lock tries
+    nevertheless with chance ``stall``, else the holder goes on. A step fits
+    the writer's phase with chance ``fit``, and gives up with chance
+    ``give_up``. Successive starts share a key while ``starts_per_key``
     timestamps are issued, or draw their keys if it is 0. Numbers out of range
     come with chances that grow with ``wild``.
     """
 
     keys: Sequence[int]
     groups: Sequence[int]
+    writers: int = WRITERS
     values: Sequence[int] = range(1000)
     same_writer: float = 0.4
     uneven: bool = False
@@ -148,7 +150,7 @@ def random_operation(draw: Draw, table: Table, profile: Profile) -> Put | Remove
 def random_step(draw: Draw, table: Table, profile: Profile, writer: int) -> Step:
     """A step after one by this writer."""
     if not draw.chance(profile.same_writer):
-        writer = draw.below(WRITERS)
+        writer = draw.below(profile.writers)
         if profile.uneven:
             writer = draw.below(writer + 1)
     if draw.chance(profile.wild / 4):
@@ -185,7 +187,7 @@ def walk(
         step = random_step(draw, table, profile, writer)
         table.step(step)
         yield step
-        writer = step.writer % WRITERS
+        writer = step.writer % profile.writers
 
 
 # --- The logs ----------------------------------------------------------------
@@ -201,7 +203,7 @@ def trace_logs() -> Iterator[bytes]:
     """Document 01's example, the empty log, single records, and P5 to P10."""
     yield bytes.fromhex("00 01 01 AC 02 02 00 03 00 04 00 05 00 06 00 07 00 08")
     yield b""
-    yield encode([Step(7, Put(31, ERASED_WORD - 1, 7))])
+    yield encode([Step(WRITERS - 1, Put(KEYS - 1, ERASED_WORD - 1, GROUPS - 1))])
     yield encode([Step(0, Action.GIVE_UP)])
 
     def put(writer: int, key: int, value: int, group: int) -> list[Step]:
@@ -216,14 +218,14 @@ def trace_logs() -> Iterator[bytes]:
     yield encode([*one, two[0], *three, *two[1:]])  # P7
     yield encode([*one, *two[:3], *three, *two[3:]])  # P7, 2 reads before 3
     yield encode([Step(0, Remove(9)), Step(0, Action.LOOK_UP)])  # P8
-    yield encode([Step(8, Put(0, 0, 0)), Step(8, Put(32, 0, 0))])  # P9
+    yield encode([Step(WRITERS, Put(0, 0, 0)), Step(WRITERS, Put(32, 0, 0))])  # P9
     one, two = put(0, 1, 10, 1), put(0, 2, 20, 2)
     three, four = put(3, 1, 11, 1), put(4, 2, 21, 2)
     overtaken = [*one, *two, three[0], *four]
     yield encode(overtaken)  # P10
     yield encode([*overtaken, *three[1:]])  # P10
-    starts = [(Step(0, Put(0, 0, 0)), Step(0, Action.GIVE_UP))] * 65
-    yield encode(step for pair in starts for step in pair)
+    pair = [Step(0, Put(0, 0, 0)), Step(0, Action.GIVE_UP)]
+    yield encode(pair * (MAX_TIMESTAMP + 1))
 
 
 def remove_logs() -> Iterator[bytes]:
@@ -257,7 +259,7 @@ def refusal_logs() -> Iterator[bytes]:
     """The first refusal that applies is given: 10, 12, 13, 18, 14, 15, 16."""
     starts = [
         Step(writer, operation)
-        for writer in (0, 1, 8, MAX_NUMBER)
+        for writer in (0, 1, WRITERS, MAX_NUMBER)
         for operation in (
             Put(32, 5, 8),
             Put(31, 5, 8),
@@ -269,7 +271,7 @@ def refusal_logs() -> Iterator[bytes]:
             Remove(MAX_NUMBER),
         )
     ]
-    actions = [Step(writer, action) for writer in (1, 2, 8) for action in Action]
+    actions = [Step(writer, action) for writer in (1, 2, WRITERS) for action in Action]
     locked = operation_steps(0, Put(1, 10, 1))[:5]
     waiting = operation_steps(1, Put(2, 20, 2))[:5]
     issued = [Step(2, Remove(31)), Step(2, Action.GIVE_UP)] * MAX_TIMESTAMP
@@ -298,10 +300,10 @@ def erased_logs() -> Iterator[bytes]:
 
 
 def walk_logs(draw: Draw) -> Iterator[bytes]:
-    """Walks of 50 to 400 steps by eight writers."""
+    """Walks of 50 to 800 steps by four, eight and all sixteen writers."""
     for profile in PROFILES:
-        for length in (50, 150, 400):
-            yield encode(walk(draw, profile, length))
+        for length, writers in ((50, 4), (150, 8), (800, WRITERS)):
+            yield encode(walk(draw, replace(profile, writers=writers), length))
 
 
 def exhausting_logs(draw: Draw) -> Iterator[bytes]:
@@ -312,7 +314,8 @@ def exhausting_logs(draw: Draw) -> Iterator[bytes]:
 
     for profile in (ALL_KEYS, SHORT_LIVED, REMOVES, NEW_KEYS, DISORDER, WILD):
         table = Table()
-        steps = list(walk(draw, profile, 2000, exhausted, table))
+        steps = list(walk(draw, profile, 4000, exhausted, table))
+        require(exhausted(table), "timestamps left")
         yield encode([*steps, *walk(draw, profile, 40, table=table)])
 
 
@@ -411,7 +414,7 @@ def families() -> list[tuple[str, list[bytes]]]:
         ("the lock freed", list(lock_logs())),
         ("refusals", list(refusal_logs())),
         ("puts of the erased word", list(erased_logs())),
-        ("random walks of 50 to 400 steps", list(walk_logs(draw))),
+        ("random walks by four, eight and sixteen writers", list(walk_logs(draw))),
         ("random walks that use up the timestamps", list(exhausting_logs(draw))),
         ("one random walk, ended at ever later steps", list(prefix_logs(draw))),
         ("each stop but 24", list(stop_logs(draw))),
@@ -528,7 +531,7 @@ ANSWERS = {
     Answer.NO_SUCH_KEY: "no such key",
     Answer.NO_SUCH_GROUP: "no such group",
     Answer.PHASE_DOES_NOT_FIT: "phase doesn't fit",
-    Answer.TIMESTAMPS_USED_UP: "64 timestamps issued",
+    Answer.TIMESTAMPS_USED_UP: f"{MAX_TIMESTAMP} timestamps issued",
     Answer.LOCK_HELD: "lock held by another",
     Answer.OUT_OF_RANGE: "table value out of range",
     Answer.VALUE_ERASED: "value is the erased word",

@@ -275,13 +275,14 @@ def traces() -> Iterator[str]:
         ("timestamp 2 reads", steps(1, LOOK_UP, READ)),
     )
     yield from story("P8", 1, 1, ("remove", through(0, Remove(5), LOOK_UP)))
-    starts = step(8, Put(1, 10, 1)) + step(8, Put(32, 10, 1))
+    starts = step(WRITERS, Put(1, 10, 1)) + step(WRITERS, Put(32, 10, 1))
     low_bytes = step(2**8, Put(1, 10, 1)) + step(0, Put(2**8, 10, 1))
     low_bytes += step(0, Remove(2**16)) + step(0, Put(1, 10, 2**8))
     yield from story(
         "P9", 0, 1,
-        ("writer 8", starts),
+        (f"writer {WRITERS}", starts),
         ("numbers whose lowest byte is in range", low_bytes),
+        (f"writer {WRITERS - 1} commits", whole(WRITERS - 1, Put(1, 10, 1))),
     )
     yield from story(
         "The order of the refusals", 1, 2,
@@ -292,7 +293,7 @@ def traces() -> Iterator[str]:
         (
             "10, then 12 and 13",
             [
-                Step(9, Put(40, 1, 9)),
+                Step(WRITERS + 1, Put(40, 1, 9)),
                 Step(0, Put(40, 1, 9)),
                 Step(0, Put(1, 1, 9)),
                 Step(0, Remove(32)),
@@ -323,7 +324,7 @@ def traces() -> Iterator[str]:
             [
                 Step(0, erased._replace(group=8)),
                 Step(0, erased._replace(key=32)),
-                Step(8, erased),
+                Step(WRITERS, erased),
             ],
         ),
         ("the value below it", whole(0, erased._replace(value=ERASED_WORD - 1))),
@@ -349,11 +350,11 @@ def traces() -> Iterator[str]:
         ("key 1 is removed", whole(1, Remove(1))),
         ("key 1 is put again", whole(2, Put(1, 11, 5))),
     )
-    zero = Put(0, 0, 0)
+    zero, all_but_one = Put(0, 0, 0), MAX_TIMESTAMP - 1
     yield from story(
-        "The largest number of starts", 63, 65,
-        ("63 starts", [Step(0, zero), Step(0, GIVE_UP)] * 63),
-        ("the 64th", step(0, zero)),
+        "The largest number of starts", all_but_one, MAX_TIMESTAMP + 1,
+        (f"{all_but_one} starts", [Step(0, Remove(0)), Step(0, GIVE_UP)] * all_but_one),
+        (f"the {MAX_TIMESTAMP}th", step(0, zero)),
         (
             "another",
             [
@@ -365,7 +366,7 @@ def traces() -> Iterator[str]:
                 Step(1, GIVE_UP),
             ],
         ),
-        ("its end, the 65th", [Step(0, GIVE_UP), Step(0, zero)]),
+        (f"its end, the {MAX_TIMESTAMP + 1}th", [Step(0, GIVE_UP), Step(0, zero)]),
     )
     before = {writer: encode([Step(writer, Put(1, 10, 1))]) for writer in range(1, 5)}
     yield from story(
@@ -383,7 +384,19 @@ def traces() -> Iterator[str]:
 
 
 def calls() -> Iterator[str]:
-    """What the calls answer."""
+    """What the calls answer, and the limits."""
+    yield "== Limits"
+    for name, limit in (
+        ("writers", WRITERS),
+        ("keys", KEYS),
+        ("groups", GROUPS),
+        ("timestamps", MAX_TIMESTAMP),
+        ("erased word", ERASED_WORD),
+        ("last phase", max(Phase)),
+        ("rows", MAX_TIMESTAMP * GROUPS * KEYS),
+    ):
+        yield f"{name}: {limit:d}"
+
     table = Table()
     yield "== Point reads"
     puts = Put(1, 10, 1), Put(2, 20, 2), Put(1, 11, 1), Put(2, 21, 2)
@@ -394,7 +407,8 @@ def calls() -> Iterator[str]:
     for key in (32, 2**8 + 1, 2**16 + 1, MAX_NUMBER):
         yield point_line(table, 4, key)
 
-    timestamps = (*range(9), 64, 65, 2**8 + 3, 2**32 + 3, NEVER_ISSUED)
+    last = MAX_TIMESTAMP
+    timestamps = (*range(9), last, last + 1, 2**8 + 3, 2**32 + 3, NEVER_ISSUED)
     table = Table()
     yield "== Instants"
     yield from (instant_line(table, at) for at in timestamps)
@@ -621,7 +635,7 @@ def hand_set() -> Iterator[str]:
             0: Writer(Phase.READ, Put(4, 41, 2), 1, 2, 5),
             1: Writer(Phase.INDEX, Remove(9), 4, 2, 0),
             3: Writer(Phase.WRITE, Put(8, 80, 2), 4, 2, 5),
-            7: Writer(Phase.READY, Put(31, 7, 7), 5, 7, 5),
+            WRITERS - 1: Writer(Phase.READY, Put(31, 7, 7), 5, 7, 5),
         },
         {(2, 1): {4: 40}, (3, 2): {6: 60}, (2, 4): {9: 90}},
     )
@@ -634,7 +648,7 @@ def hand_set() -> Iterator[str]:
         ("writer 1's check fails", step(1, CHECK)),
         ("writer 3 commits", steps(3, WRITE, COMMIT)),
         ("key 9 is in no group", through(2, Put(9, 91, 3), READ)),
-        ("writer 7 starts anew", whole(7, Put(30, 70, 6))),
+        (f"writer {WRITERS - 1} starts anew", whole(WRITERS - 1, Put(30, 70, 6))),
     )
 
 
@@ -653,10 +667,10 @@ def largest(last: int = MAX_TIMESTAMP) -> Table:
 
 
 def tried(title: str, table: Table) -> Iterator[str]:
-    """A step by writer 8 and what the other calls answer, without a change."""
+    """A step by a writer past the last, and the other calls; nothing changes."""
     yield f"== {title}"
     for label in ("run", "advance"):
-        yield from ran(table, label, encode(step(8, LOOK_UP)), [99])[0]
+        yield from ran(table, label, encode(step(WRITERS, LOOK_UP)), [99])[0]
     yield point_line(table, MAX_TIMESTAMP, KEYS)
     yield scan_into(table, MAX_TIMESTAMP, 4)
     yield scan_into(table, MAX_TIMESTAMP, 2)
@@ -692,7 +706,7 @@ def grounds() -> Iterator[str]:
     yield from tried("17: key", off(**key))
     yield from tried("17: group", off(**group))
     last = MAX_TIMESTAMP - 1
-    yield from tried(f"17: no ground, last timestamp {last}", off(last))
+    yield from tried("17: no ground, one timestamp left", off(last))
     yield from tried("17: timestamp", off(last, timestamp=last + 1))
     yield from tried("17: base", off(last, base=last + 1))
     yield from tried("17: timestamp 0", off(timestamp=0))
@@ -767,13 +781,13 @@ def searches() -> Iterator[str]:
     for group, base, last in itertools.product(range(4), range(10), range(10)):
         yield search_line(timeline, group, base, last)
     yield "== Last timestamps and bases past the end"
+    full = MAX_TIMESTAMP
     for group, base, last in (
-        *((1, 5, 255), (1, 6, 255), (2, 0, 255), (0, 0, 64), (1, 64, 65)),
+        *((1, 5, 255), (1, 6, 255), (2, 0, 255), (0, 0, full), (1, full, full + 1)),
         *((1, 254, 255), (1, 255, 255), (1, 255, 0)),
     ):
         yield search_line(timeline, group, base, last)
 
-    full = MAX_TIMESTAMP
     timeline = timeline_of(*[requested] * full)
     timeline |= dict.fromkeys((1, 9, full), completed(7))
     yield "== As many instants as a table has"

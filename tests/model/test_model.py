@@ -164,7 +164,7 @@ class TracesOfTheTable(TableTest):
         self.assert_last(2, [Step(0, Remove(9)), Step(0, LOOK_UP)])
 
     def test_p9(self) -> None:
-        answers = self.take(Step(8, Put(0, 0, 0)), Step(8, Put(32, 0, 0)))
+        answers = self.take(Step(16, Put(0, 0, 0)), Step(16, Put(32, 0, 0)))
         self.assertEqual(answers, [10, 10])
 
     def test_p10(self) -> None:
@@ -176,12 +176,12 @@ class TracesOfTheTable(TableTest):
         self.assert_last(1, through(0, COMMIT))
         self.assert_rows(3, (1, 11, 1), (2, 20, 2))
 
-    def test_64_timestamps(self) -> None:
-        for _ in range(63):
+    def test_128_timestamps(self) -> None:
+        for _ in range(127):
             self.take(Step(0, Put(0, 0, 0)), Step(0, GIVE_UP))
         self.assertEqual(self.take(Step(0, Put(0, 0, 0))), [0])
         self.assertEqual(self.take(Step(1, Put(0, 0, 0))), [15])
-        self.assertEqual(self.table.last_timestamp, 64)
+        self.assertEqual(self.table.last_timestamp, 128)
 
     def test_room_of_a_scan(self) -> None:
         self.take(*whole(0, Put(1, 10, 1)), *whole(0, Put(2, 20, 2)))
@@ -431,12 +431,12 @@ class Refusals(TableTest):
         ):
             with self.subTest(operation=operation):
                 self.assertEqual(self.take(Step(0, operation)), [ready])
-                self.assertEqual(self.take(Step(8, operation)), [unknown])
+                self.assertEqual(self.take(Step(16, operation)), [unknown])
         self.assertEqual(self.take(Step(MAX_NUMBER, GIVE_UP)), [10])
-        self.assertEqual(self.take(Step(7, Put(0, 0, 0))), [0])
+        self.assertEqual(self.take(Step(15, Put(0, 0, 0))), [0])
 
     def test_order_with_all_timestamps_issued(self) -> None:
-        for _ in range(63):
+        for _ in range(127):
             self.take(Step(0, Put(0, 0, 0)), Step(0, GIVE_UP))
         self.take(Step(1, Remove(0)))
         for step, answer in (
@@ -500,7 +500,7 @@ class OutOfRange(TableTest):
 
     def assert_out_of_range(self) -> None:
         before = copy.deepcopy(self.table)
-        self.assertEqual(self.take(Step(8, Put(32, 0, 8))), [17])
+        self.assertEqual(self.take(Step(16, Put(32, 0, 8))), [17])
         self.assertEqual(self.take(Step(0, Put(0, ERASED_WORD, 0))), [17])
         self.assertEqual(self.table.point_read(32, 1), 17)
         buffer = [9] * 99
@@ -514,9 +514,9 @@ class OutOfRange(TableTest):
 
     def test_table(self) -> None:
         for name, value in (
-            ("last_timestamp", 65),
+            ("last_timestamp", 129),
             ("last_timestamp", 1),
-            ("lock", 8),
+            ("lock", 16),
             ("index", {1: 8}),
             ("index", {32: 0}),
             ("timeline", {3: REQUESTED}),
@@ -776,7 +776,7 @@ class Histories(TableTest):
         history = self.record(
             *through(0, LOOK_UP, Remove(1)),
             Step(0, Put(32, 0, 0)),
-            Step(8, Put(1, 0, 0)),
+            Step(16, Put(1, 0, 0)),
             Step(0, GIVE_UP),
             Step(1, Put(1, 10, 3)),
             Step(1, GIVE_UP),

@@ -1,5 +1,5 @@
 #!/usr/bin/env python3
-"""Times crates/speed against reference.rs, a program in ordinary Rust, on logs of 64 whole operations with a scan after each.
+"""Times crates/speed against reference.rs, a program in ordinary Rust, on logs of 128 whole operations with a scan after each.
 
     rt check speed && python3 tests/speed/measure.py       prints, for each log and each type of its small numbers, both times of a pass and their ratio
     python3 tests/speed/measure.py --store                 stores crates/speed/stdin, and the reference's output for it in crates/speed/stdout
@@ -17,7 +17,7 @@ from pathlib import Path
 
 ROOT = Path(__file__).resolve().parents[2]
 CRATE = ROOT / "crates" / "speed"
-OPERATIONS, KEYS, GROUPS = 64, 32, 8
+WRITERS, KEYS, GROUPS, OPERATIONS = 16, 32, 8, 128
 PASSES, ROUNDS = 20_000, 9
 
 
@@ -62,7 +62,7 @@ def pass_time(program, steps):
 
 
 def measure(ours, reference, kind):
-    for writers in (1, 8):
+    for writers in (1, WRITERS):
         steps = log(writers)
         if output(ours, 2, steps) != output(reference, 2, steps):
             sys.exit(f"writers {writers}: the programs print different answers or rows")
@@ -83,8 +83,8 @@ def main():
     with tempfile.TemporaryDirectory() as folder:
         plain = compiled(folder, "plain")
         if sys.argv[1:] == ["--store"]:
-            (CRATE / "stdin").write_bytes(leb128(2) + log(8))
-            (CRATE / "stdout").write_bytes(output(plain, 2, log(8)))
+            (CRATE / "stdin").write_bytes(leb128(2) + log(WRITERS))
+            (CRATE / "stdout").write_bytes(output(plain, 2, log(WRITERS)))
         else:
             ours = str(ROOT / "target" / "bin" / "speed")
             measure(ours, plain, "usize")

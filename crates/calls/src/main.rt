@@ -1,8 +1,10 @@
-// What the calls answer: point reads, instants, scans into buffers of any size, and a run with too few places.
+// What the calls answer: the limits, point reads, instants, scans into buffers of any size, and a run with too few places.
+mod limits;
 mod reads;
 mod runs;
 
 fn main() {
+    limits::limits();
     reads::reads();
     reads::instants();
     reads::room();

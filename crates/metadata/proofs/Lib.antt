@@ -1,3 +1,4 @@
 pub mod Largest
 pub mod Looking
 pub mod Search
+pub mod RangeTest

@@ -2,3 +2,4 @@ pub mod Actor
 pub mod Parts
 pub mod Largest
 pub mod Search
+pub mod Inner

@@ -5,8 +5,9 @@ ghost use mathlib.Core.List.{List};
 ghost use Prim.Native.Nat.{ℕ, max};
 ghost use lib.ListN.{drop};
 ghost use Rattle.model.specs.State.{State, stateOf};
-ghost use Rattle.model.specs.Range.{writerInRange, writersInRange, inRange};
+ghost use Rattle.model.specs.Range.{writerInRange, inRange};
 ghost use Rattle.metadata.specs.Actor.{actorInRange};
+ghost use Rattle.metadata.specs.Inner.{keepsZeros, sharedInRange};
 ghost use Rattle.metadata.specs.Largest.{largest};
 ghost use Rattle.metadata.specs.Parts.{withParts};
 use model::Table;
@@ -19,9 +20,32 @@ use model::limits::LAST_PHASE;
 use model::limits::TIMESTAMPS;
 use model::limits::WRITERS;
 
+// Does a writer keep zeros, as a ready one does? Its value has no range and is not asked.
+fn keeps_zeros(x: Writer) -> bool
+    ensures { λ r. ⌜ r ≡ keepsZeros x ⌝ }
+{
+    if x.phase != 0 {
+        return false;
+    }
+    if x.key != 0 {
+        return false;
+    }
+    if x.group != 0 {
+        return false;
+    }
+    if x.ts != 0 {
+        return false;
+    }
+    x.base == 0
+}
+
+// Are the numbers of a writer in range? Most writers keep zeros, so that is asked first.
 fn writer_in_range(x: Writer, last: u8) -> bool
     ensures { λ r. ⌜ r ≡ writerInRange last x ⌝ }
 {
+    if keeps_zeros(x) {
+        return true;
+    }
     if x.key >= KEYS as u8 {
         return false;
     }
@@ -53,19 +77,6 @@ pub fn actor_in_range(last: u8, x: Writer) -> bool
     writer_in_range(x, last)
 }
 
-fn writers_in_range(xs: [Writer; WRITERS], last: u8) -> bool
-    ensures { λ r. ⌜ r ≡ writersInRange last xs ⌝ }
-{
-    let mut w: usize = 0;
-    while w < WRITERS {
-        if !writer_in_range(xs[w], last) {
-            return false;
-        }
-        w += 1;
-    }
-    true
-}
-
 // The larger of two numbers.
 fn larger(a: u8, b: u8) -> u8
     ensures { λ r. ⌜ r ≡ max a b ⌝ }
@@ -86,23 +97,19 @@ fn largest(numbers: &[u8], from: usize) -> u8
     most
 }
 
-// Is every stored number of a table in its range? The table comes in its parts, so that no caller copies it whole for the test.
-pub fn parts_in_range<'a>(
+// Are the numbers that all writers share in range?
+fn shared_in_range<'a>(
     last: u8,
     lock: u8,
-    writers: [Writer; WRITERS],
     index: &'a [u8; KEYS],
     timeline: &'a [u8; TIMESTAMPS],
 ) -> bool
-    ensures { λ r. ⌜ ((st : State) → r ≡ inRange (withParts st last lock writers (now (index .entry)) (now (timeline .entry)))) ⌝ }
+    ensures { λ r. ⌜ r ≡ sharedInRange last lock (now (index .entry)) (now (timeline .entry)) ⌝ }
 {
     if last > TIMESTAMPS as u8 {
         return false;
     }
     if lock > WRITERS as u8 {
-        return false;
-    }
-    if !writers_in_range(writers, last) {
         return false;
     }
     if largest(index, 0) > GROUPS as u8 {
@@ -112,6 +119,30 @@ pub fn parts_in_range<'a>(
         return false;
     }
     largest(timeline, last as usize) == NONE
+}
+
+// Is every stored number of a table in its range? The table comes in its parts, so that no caller copies it whole for the test, and the writers are
+// tested here, so that they are not copied on.
+pub fn parts_in_range<'a>(
+    last: u8,
+    lock: u8,
+    writers: [Writer; WRITERS],
+    index: &'a [u8; KEYS],
+    timeline: &'a [u8; TIMESTAMPS],
+) -> bool
+    ensures { λ r. ⌜ ((st : State) → r ≡ inRange (withParts st last lock writers (now (index .entry)) (now (timeline .entry)))) ⌝ }
+{
+    if !shared_in_range(last, lock, index, timeline) {
+        return false;
+    }
+    let mut w: usize = 0;
+    while w < WRITERS {
+        if !writer_in_range(writers[w], last) {
+            return false;
+        }
+        w += 1;
+    }
+    true
 }
 
 // The same of a table. Its rows have no number with a range.

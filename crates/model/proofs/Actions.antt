@@ -7,7 +7,7 @@ use mathlib.Core.List.{List}
 use mathlib.Core.Path.{_≡_, refl}
 use mathlib.Core.Logic.{_≢_}
 use lib.ListN.{getD, set}
-use Rattle.model.specs.Limits.{writers, keys, groups, timestamps}
+use Rattle.model.specs.Limits.{writers, keys, groups, timestamps, lastPhase}
 use Rattle.model.specs.Answers.{taken, aborted, outOfRange}
 use Rattle.model.specs.State.{Shared, withLast, withLock, withIndex, withTimeline, withPresent, withValues, completed, ready}
 use Rattle.model.specs.Rules.{withInstant, keyOf, groupOf, begun, moved, Verdict, Outcome, outcome, closed, carried, act}
@@ -81,7 +81,7 @@ module _ (x : Writer) (w : ℕ) (s : Shared) where
       })
 
   -- the writer goes on to phase p, with file group h and base b
-  moves : {n p h b : ℕ} {t : Shared} → t .last ≡ s .last → x .phase ≡ suc n → p ≤ 6
+  moves : {n p h b : ℕ} {t : Shared} → t .last ≡ s .last → x .phase ≡ suc n → p ≤ lastPhase
       → (w < writers → SharedRanged s → WriterRanged (s .last) x → (h < groups) × (b ≤ s .last) × SharedRanged t)
       → Sound (outcome taken (moved x p h b) t)
   moves e at i k =

@@ -6,7 +6,7 @@ use native.Mathlib.Omega.{arith}
 use mathlib.Core.Bool.{true}
 use mathlib.Core.Path.{_≡_}
 use lib.ListN.{getD}
-use Rattle.model.specs.Limits.{writers, keys, groups, timestamps}
+use Rattle.model.specs.Limits.{writers, keys, groups, timestamps, lastPhase}
 use Rattle.model.specs.State.{Shared, State, completed, ready}
 use Rattle.model.specs.Range.{writerInRange, writersInRange, indexInRange, instantsInRange, noneAbove, inRange}
 use Rattle.model.specs.declared.Writer.{Writer}
@@ -16,7 +16,7 @@ use Rattle.common.proofs.Cases.{facts}
 pub record WriterRanged (last : ℕ) (x : Writer) : Type 0 where
   pub key : x .key < keys
   pub group : x .group < groups
-  pub phase : x .phase ≤ 6
+  pub phase : x .phase ≤ lastPhase
   pub ts : x .ts ≤ last
   pub base : x .base ≤ last
   pub issued : 0 < x .phase → 0 < x .ts

@@ -1,4 +1,5 @@
 // Answer 17, ground by ground: a table with every number at its largest, then with one number out of range.
+use common::Word;
 use model::Table;
 use model::Value;
 use model::Writer;
@@ -7,6 +8,7 @@ use model::instants::NONE;
 use model::instants::REQUESTED;
 use model::limits::GROUPS;
 use model::limits::KEYS;
+use model::limits::LAST_PHASE;
 use model::limits::ROWS;
 use model::limits::TIMESTAMPS;
 use model::limits::WRITERS;
@@ -42,8 +44,8 @@ fn writer(phase: u8, key: u8, group: u8, ts: u8, base: u8) -> Writer {
     }
 }
 
-// A table with the largest numbers but for these: the last timestamp, the lock, the last key's entry, the instant of timestamp 64, the last
-// writer, and the writers before it.
+// A table with the largest numbers but for these: the last timestamp, the lock, the last key's entry, the last instant, the last writer, and the
+// writers before it.
 fn table_of(last: u8, lock: u8, entry: u8, instant: u8, writer: Writer, others: Writer) -> Table {
     let mut index = [ENTRY; KEYS];
     let mut timeline = [INSTANT; TIMESTAMPS];
@@ -60,12 +62,13 @@ fn table_of(last: u8, lock: u8, entry: u8, instant: u8, writer: Writer, others: 
     }
 }
 
-// On a table whose last row of all is present, that of the last key, file group and timestamp: a step by writer 8, as a log and by `advance`,
-// a point read of key 32, a scan with room and one without, and the instant call. In range they give 10, 10, 12, the row, 31 and the instant.
+// On a table whose last row of all is present, that of the last key, file group and timestamp: a step by a writer past the last, as a log and by
+// `advance`, a point read of a key past the last, a scan with room and one without, and the instant call. In range they give 10, 10, 12, the row,
+// 31 and the instant.
 fn tried(title: &[u8], t: Table) {
     let mut present = [false; ROWS];
     let mut values: [Value; ROWS] = [0; ROWS];
-    let step = b"\x08\x03";
+    let step = [WRITERS as u8, 3];
     present[ROWS - 1] = true;
     values[ROWS - 1] = u32::MAX;
     report::title(title);
@@ -74,7 +77,7 @@ fn tried(title: &[u8], t: Table) {
         &mut present,
         &mut values,
         b"run:",
-        step,
+        &step,
         &mut [99; 1],
         false,
     );
@@ -83,19 +86,19 @@ fn tried(title: &[u8], t: Table) {
         &mut present,
         &mut values,
         b"advance:",
-        step,
+        &step,
         &mut [99; 1],
         true,
     );
-    point_read(t, &present, &values, 64, 32);
-    scan_into(t, &present, &values, 64, &mut [9; 4]);
-    scan_into(t, &present, &values, 64, &mut [9; 2]);
-    instant(t, 64);
+    point_read(t, &present, &values, LAST as u64, KEYS as Word);
+    scan_into(t, &present, &values, LAST as u64, &mut [9; 4]);
+    scan_into(t, &present, &values, LAST as u64, &mut [9; 2]);
+    instant(t, LAST as u64);
 }
 
 fn of_the_table() {
-    let x = writer(6, KEY, GROUP, LAST, LAST);
-    let y = writer(6, KEY, GROUP, LAST - 1, LAST - 1);
+    let x = writer(LAST_PHASE, KEY, GROUP, LAST, LAST);
+    let y = writer(LAST_PHASE, KEY, GROUP, LAST - 1, LAST - 1);
     tried(b"17: no ground", table_of(LAST, LOCK, ENTRY, INSTANT, x, x));
     tried(
         b"17: last timestamp",
@@ -124,47 +127,50 @@ fn with_writer(x: Writer) -> Table {
         ENTRY,
         INSTANT,
         x,
-        writer(6, KEY, GROUP, LAST, LAST),
+        writer(LAST_PHASE, KEY, GROUP, LAST, LAST),
     )
 }
 
-// The same with the last timestamp 63: timestamp 64 has no instant, and is out of range though a table may issue it.
-fn at_63_with_writer(x: Writer) -> Table {
+// The same with one timestamp left: it has no instant, and is out of range though a table may issue it.
+fn one_left_with_writer(x: Writer) -> Table {
     table_of(
         LAST - 1,
         LOCK,
         ENTRY,
         NONE,
         x,
-        writer(6, KEY, GROUP, LAST - 1, LAST - 1),
+        writer(LAST_PHASE, KEY, GROUP, LAST - 1, LAST - 1),
     )
 }
 
 fn of_a_writer() {
-    tried(b"17: phase", with_writer(writer(7, KEY, GROUP, LAST, LAST)));
+    tried(
+        b"17: phase",
+        with_writer(writer(LAST_PHASE + 1, KEY, GROUP, LAST, LAST)),
+    );
     tried(
         b"17: key",
-        with_writer(writer(6, KEY + 1, GROUP, LAST, LAST)),
+        with_writer(writer(LAST_PHASE, KEY + 1, GROUP, LAST, LAST)),
     );
     tried(
         b"17: group",
-        with_writer(writer(6, KEY, GROUP + 1, LAST, LAST)),
+        with_writer(writer(LAST_PHASE, KEY, GROUP + 1, LAST, LAST)),
     );
     tried(
-        b"17: no ground, last timestamp 63",
-        at_63_with_writer(writer(6, KEY, GROUP, LAST - 1, LAST - 1)),
+        b"17: no ground, one timestamp left",
+        one_left_with_writer(writer(LAST_PHASE, KEY, GROUP, LAST - 1, LAST - 1)),
     );
     tried(
         b"17: timestamp",
-        at_63_with_writer(writer(6, KEY, GROUP, LAST, LAST - 1)),
+        one_left_with_writer(writer(LAST_PHASE, KEY, GROUP, LAST, LAST - 1)),
     );
     tried(
         b"17: base",
-        at_63_with_writer(writer(6, KEY, GROUP, LAST - 1, LAST)),
+        one_left_with_writer(writer(LAST_PHASE, KEY, GROUP, LAST - 1, LAST)),
     );
     tried(
         b"17: timestamp 0",
-        with_writer(writer(6, KEY, GROUP, 0, LAST)),
+        with_writer(writer(LAST_PHASE, KEY, GROUP, 0, LAST)),
     );
     tried(
         b"17: no ground, timestamp 0 at phase 0",
@@ -184,11 +190,11 @@ fn of_a_ready_writer() {
     );
     tried(
         b"17: timestamp at phase 0",
-        at_63_with_writer(writer(0, KEY, GROUP, LAST, LAST - 1)),
+        one_left_with_writer(writer(0, KEY, GROUP, LAST, LAST - 1)),
     );
     tried(
         b"17: base at phase 0",
-        at_63_with_writer(writer(0, KEY, GROUP, LAST - 1, LAST)),
+        one_left_with_writer(writer(0, KEY, GROUP, LAST - 1, LAST)),
     );
 }
 

@@ -9,7 +9,7 @@ use native.Mathlib.Nat.{le-trans}
 use native.Mathlib.Omega.{arith}
 use borrow.Author.Tests.{leb-true}
 use Rattle.common.proofs.Cases.{facts}
-use Rattle.model.specs.Limits.{timestamps}
+use Rattle.model.specs.Limits.{timestamps, lastPhase}
 use Rattle.model.specs.Rules.{sliced}
 use Rattle.model.specs.declared.Writer.{Writer}
 use Rattle.model.proofs.Ranged.{WriterRanged, writer-ranged}
@@ -17,7 +17,7 @@ use Rattle.metadata.specs.Actor.{actorInRange}
 use Rattle.slices.specs.Slices.{namesSlice, sliceStored}
 use Rattle.rules.specs.Inner.{Bounds}
 
-started : (phase ts : ℕ) → phase ≤ 6 → (0 < phase → 0 < ts) → phase ≤ 6 * ts
+started : (phase ts : ℕ) → phase ≤ lastPhase → (0 < phase → 0 < ts) → phase ≤ lastPhase * ts
 started zero ts l f = omega arith
 started (suc n) ts l f = let p : 0 < ts = f (omega arith) in omega arith
 

@@ -1,7 +1,7 @@
 -- What the functions of the rules promise each other.
 use Prim.Native.Nat.{ℕ, _*_, _<_, _≤_}
 use mathlib.Core.Path.{_≡_}
-use Rattle.model.specs.Limits.{keys, groups, timestamps}
+use Rattle.model.specs.Limits.{keys, groups, timestamps, lastPhase}
 use Rattle.model.specs.State.{Shared}
 use Rattle.model.specs.Rules as rules
 use Rattle.model.specs.declared.Writer.{Writer}
@@ -36,4 +36,4 @@ pub record Bounds (x : Writer) : Type 0 where
   pub group : x .group < groups
   pub ts : x .ts ≤ timestamps
   pub base : x .base ≤ timestamps
-  pub started : x .phase ≤ 6 * x .ts  -- a phase is at most 6, and 0 where the timestamp is
+  pub started : x .phase ≤ lastPhase * x .ts  -- a phase is at most the last, and 0 where the timestamp is

@@ -92,8 +92,11 @@ fn eight_instants() {
     search_all(&timeline, 2);
     search_all(&timeline, 3);
     report::title(b"Last timestamps and bases past the end");
-    search_each(&timeline, &[1, 5, 255, 1, 6, 255, 2, 0, 255, 0, 0, 64]);
-    search_each(&timeline, &[1, 64, 65, 1, 254, 255, 1, 255, 255, 1, 255, 0]);
+    search_each(&timeline, &[1, 5, 255, 1, 6, 255, 2, 0, 255, 0, 0, LAST]);
+    search_each(
+        &timeline,
+        &[1, LAST, LAST + 1, 1, 254, 255, 1, 255, 255, 1, 255, 0],
+    );
 }
 
 // The first, the ninth and the last timestamp of all are completed in file group 7.

@@ -31,15 +31,16 @@ pub fn refusals() {
         remove:\x00\x02\x05\x00\x03;";
     story(b"P8", p8, 1, 1);
     // Starts by a writer that does not exist, the second with a key that does not exist either. Then starts with the writer 256, the key 256,
-    // the key 65,536 and the group 256.
+    // the key 65,536 and the group 256. Then an operation by the last writer.
     let p9 = b"\
-        writer 8:\x08\x01\x01\x0a\x01\x08\x01\x20\x0a\x01;\
-        numbers whose lowest byte is in range:\x80\x02\x01\x01\x0a\x01\x00\x01\x80\x02\x0a\x01\x00\x02\x80\x80\x04\x00\x01\x01\x0a\x80\x02;";
+        writer 16:\x10\x01\x01\x0a\x01\x10\x01\x20\x0a\x01;\
+        numbers whose lowest byte is in range:\x80\x02\x01\x01\x0a\x01\x00\x01\x80\x02\x0a\x01\x00\x02\x80\x80\x04\x00\x01\x01\x0a\x80\x02;\
+        writer 15 commits:\x0f\x01\x01\x0a\x01\x0f\x03\x0f\x04\x0f\x05\x0f\x06\x0f\x07\x0f\x08;";
     story(b"P9", p9, 0, 1);
     // Each step has two grounds or more, and gets the answer that comes first; then one ground less. Writer 1 holds the lock.
     let in_order = b"\
         two have begun:\x00\x01\x01\x0a\x01\x00\x03\x00\x04\x00\x05\x01\x01\x02\x14\x02\x01\x03\x01\x04\x01\x05\x01\x06;\
-        10, then 12 and 13:\x09\x01\x28\x01\x09\x00\x01\x28\x01\x09\x00\x01\x01\x01\x09\x00\x02\x20;\
+        10, then 12 and 13:\x11\x01\x28\x01\x09\x00\x01\x28\x01\x09\x00\x01\x01\x01\x09\x00\x02\x20;\
         14, not 16:\x00\x01\x01\x01\x01\x00\x07\x00\x08\x01\x06\x02\x06;\
         16:\x00\x06;\
         writer 1 gives up, writer 0 commits:\x01\x09\x00\x06\x00\x07\x00\x08;";
@@ -51,7 +52,7 @@ pub fn erased_word() {
     let script = b"\
         by a ready writer:\x00\x01\x01\xff\xff\xff\xff\x0f\x01\x00\x03;\
         13, 12 and 10 before 18:\x00\x01\x01\xff\xff\xff\xff\x0f\x08\x00\x01\x20\xff\xff\xff\xff\x0f\x01\
-        \x08\x01\x01\xff\xff\xff\xff\x0f\x01;\
+        \x10\x01\x01\xff\xff\xff\xff\x0f\x01;\
         the value below it:\x00\x01\x01\xfe\xff\xff\xff\x0f\x01\x00\x03\x00\x04\x00\x05\x00\x06\x00\x07\x00\x08;\
         at each phase:\x01\x01\x02\x14\x01\x01\x01\x01\xff\xff\xff\xff\x0f\x01\
         \x01\x03\x01\x01\x01\xff\xff\xff\xff\x0f\x01\x01\x04\x01\x01\x01\xff\xff\xff\xff\x0f\x01\
@@ -80,21 +81,26 @@ pub fn ends() {
 }
 
 pub fn starts() {
-    // A writer starts and gives up, again and again: the 64th start is taken, the 65th is refused, but on other grounds first.
+    // A writer starts and gives up, again and again: the 128th start is taken, the 129th is refused, but on other grounds first.
     let script = b"\
-        63 starts:\0\x01\0\0\0\0\t\0\x01\0\0\0\0\t\0\x01\0\0\0\0\t\0\x01\0\0\0\0\t\0\x01\0\0\0\0\t\0\x01\0\0\0\0\t\0\x01\0\0\0\0\t\
-        \0\x01\0\0\0\0\t\0\x01\0\0\0\0\t\0\x01\0\0\0\0\t\0\x01\0\0\0\0\t\0\x01\0\0\0\0\t\0\x01\0\0\0\0\t\0\x01\0\0\0\0\t\
-        \0\x01\0\0\0\0\t\0\x01\0\0\0\0\t\0\x01\0\0\0\0\t\0\x01\0\0\0\0\t\0\x01\0\0\0\0\t\0\x01\0\0\0\0\t\0\x01\0\0\0\0\t\
-        \0\x01\0\0\0\0\t\0\x01\0\0\0\0\t\0\x01\0\0\0\0\t\0\x01\0\0\0\0\t\0\x01\0\0\0\0\t\0\x01\0\0\0\0\t\0\x01\0\0\0\0\t\
-        \0\x01\0\0\0\0\t\0\x01\0\0\0\0\t\0\x01\0\0\0\0\t\0\x01\0\0\0\0\t\0\x01\0\0\0\0\t\0\x01\0\0\0\0\t\0\x01\0\0\0\0\t\
-        \0\x01\0\0\0\0\t\0\x01\0\0\0\0\t\0\x01\0\0\0\0\t\0\x01\0\0\0\0\t\0\x01\0\0\0\0\t\0\x01\0\0\0\0\t\0\x01\0\0\0\0\t\
-        \0\x01\0\0\0\0\t\0\x01\0\0\0\0\t\0\x01\0\0\0\0\t\0\x01\0\0\0\0\t\0\x01\0\0\0\0\t\0\x01\0\0\0\0\t\0\x01\0\0\0\0\t\
-        \0\x01\0\0\0\0\t\0\x01\0\0\0\0\t\0\x01\0\0\0\0\t\0\x01\0\0\0\0\t\0\x01\0\0\0\0\t\0\x01\0\0\0\0\t\0\x01\0\0\0\0\t\
-        \0\x01\0\0\0\0\t\0\x01\0\0\0\0\t\0\x01\0\0\0\0\t\0\x01\0\0\0\0\t\0\x01\0\0\0\0\t\0\x01\0\0\0\0\t\0\x01\0\0\0\0\t;\
-        the 64th:\0\x01\0\0\0;\
+        127 starts:\
+        \0\x02\0\0\t\0\x02\0\0\t\0\x02\0\0\t\0\x02\0\0\t\0\x02\0\0\t\0\x02\0\0\t\0\x02\0\0\t\0\x02\0\0\t\0\x02\0\0\t\0\x02\0\0\t\
+        \0\x02\0\0\t\0\x02\0\0\t\0\x02\0\0\t\0\x02\0\0\t\0\x02\0\0\t\0\x02\0\0\t\0\x02\0\0\t\0\x02\0\0\t\0\x02\0\0\t\0\x02\0\0\t\
+        \0\x02\0\0\t\0\x02\0\0\t\0\x02\0\0\t\0\x02\0\0\t\0\x02\0\0\t\0\x02\0\0\t\0\x02\0\0\t\0\x02\0\0\t\0\x02\0\0\t\0\x02\0\0\t\
+        \0\x02\0\0\t\0\x02\0\0\t\0\x02\0\0\t\0\x02\0\0\t\0\x02\0\0\t\0\x02\0\0\t\0\x02\0\0\t\0\x02\0\0\t\0\x02\0\0\t\0\x02\0\0\t\
+        \0\x02\0\0\t\0\x02\0\0\t\0\x02\0\0\t\0\x02\0\0\t\0\x02\0\0\t\0\x02\0\0\t\0\x02\0\0\t\0\x02\0\0\t\0\x02\0\0\t\0\x02\0\0\t\
+        \0\x02\0\0\t\0\x02\0\0\t\0\x02\0\0\t\0\x02\0\0\t\0\x02\0\0\t\0\x02\0\0\t\0\x02\0\0\t\0\x02\0\0\t\0\x02\0\0\t\0\x02\0\0\t\
+        \0\x02\0\0\t\0\x02\0\0\t\0\x02\0\0\t\0\x02\0\0\t\0\x02\0\0\t\0\x02\0\0\t\0\x02\0\0\t\0\x02\0\0\t\0\x02\0\0\t\0\x02\0\0\t\
+        \0\x02\0\0\t\0\x02\0\0\t\0\x02\0\0\t\0\x02\0\0\t\0\x02\0\0\t\0\x02\0\0\t\0\x02\0\0\t\0\x02\0\0\t\0\x02\0\0\t\0\x02\0\0\t\
+        \0\x02\0\0\t\0\x02\0\0\t\0\x02\0\0\t\0\x02\0\0\t\0\x02\0\0\t\0\x02\0\0\t\0\x02\0\0\t\0\x02\0\0\t\0\x02\0\0\t\0\x02\0\0\t\
+        \0\x02\0\0\t\0\x02\0\0\t\0\x02\0\0\t\0\x02\0\0\t\0\x02\0\0\t\0\x02\0\0\t\0\x02\0\0\t\0\x02\0\0\t\0\x02\0\0\t\0\x02\0\0\t\
+        \0\x02\0\0\t\0\x02\0\0\t\0\x02\0\0\t\0\x02\0\0\t\0\x02\0\0\t\0\x02\0\0\t\0\x02\0\0\t\0\x02\0\0\t\0\x02\0\0\t\0\x02\0\0\t\
+        \0\x02\0\0\t\0\x02\0\0\t\0\x02\0\0\t\0\x02\0\0\t\0\x02\0\0\t\0\x02\0\0\t\0\x02\0\0\t\0\x02\0\0\t\0\x02\0\0\t\0\x02\0\0\t\
+        \0\x02\0\0\t\0\x02\0\0\t\0\x02\0\0\t\0\x02\0\0\t\0\x02\0\0\t\0\x02\0\0\t\0\x02\0\0\t;\
+        the 128th:\0\x01\0\0\0;\
         another:\x01\x01\x00\x00\x00\x01\x01\x20\x00\x00\x01\x01\x00\x00\x08\x01\x02\x00\x00\x01\x00\x00\x00\x01\x09;\
-        its end, the 65th:\x00\x09\x00\x01\x00\x00\x00;";
-    story(b"The largest number of starts", script, 63, 65);
+        its end, the 129th:\x00\x09\x00\x01\x00\x00\x00;";
+    story(b"The largest number of starts", script, 127, 129);
 }
 
 pub fn stops() {

@@ -5,10 +5,11 @@ use crate::set::story;
 use model::Table;
 use model::Writer;
 use model::instants::COMPLETED;
+use model::limits::WRITERS;
 
 // Timestamps 3 to 5 are issued and have no instant. Writer 0, at its read step, holds timestamp 1, which is completed in its own file group.
 // Writer 1, at its index step, has a remove of a key that is not indexed. Writer 3 has a base above its timestamp, and its slice has a row already.
-// Writer 7 is ready and keeps numbers.
+// The last writer is ready and keeps numbers.
 fn table_with() -> Table {
     let mut t = bare(5);
     t.timeline[0] = COMPLETED + 2;
@@ -24,7 +25,7 @@ fn table_with() -> Table {
         value: 0,
     };
     t.writers[3] = putting(3, 8, 80, 2, 4, 5);
-    t.writers[7] = putting(0, 31, 7, 7, 5, 5);
+    t.writers[WRITERS - 1] = putting(0, 31, 7, 7, 5, 5);
     t
 }
 
@@ -38,7 +39,7 @@ pub fn not_given() {
         writer 1's check fails:\x01\x07;\
         writer 3 commits:\x03\x05\x03\x06\x03\x07\x03\x08;\
         key 9 is in no group:\x02\x01\x09\x5b\x03\x02\x03\x02\x04;\
-        writer 7 starts anew:\x07\x01\x1e\x46\x06\x07\x03\x07\x04\x07\x05\x07\x06\x07\x07\x07\x08;";
+        writer 15 starts anew:\x0f\x01\x1e\x46\x06\x0f\x03\x0f\x04\x0f\x05\x0f\x06\x0f\x07\x0f\x08;";
     story(
         title,
         table_with(),

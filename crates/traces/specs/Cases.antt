@@ -6,6 +6,7 @@ use mathlib.Core.Option.{Option, none, some}
 use lib.ListN.{getD, replicate}
 use Rattle.leb128.specs.Coding.{encoded, decodedAt, decodedNumbers}
 use Rattle.common.specs.Counting.{listBelow}
+use Rattle.model.specs.Limits.{writers}
 use Rattle.model.specs.State.{Shared, State, fresh, rowAt}
 use Rattle.model.specs.Rules.{entryOf, writerOf, step}
 use Rattle.model.specs.Machine.{answersFrom, commitMachine}
@@ -44,7 +45,7 @@ pub data Case : Type 0 where
   stored : List Step → ℕ → ℕ → Case  -- what the write steps among steps on a fresh table stored under a timestamp, of a key
   onParts : State → Step → Case  -- the answer of `rules::act` to a caller who says that the table is in range, whether it is or not
   searched : List ℕ → ℕ → ℕ → ℕ → Case  -- the search of a timeline for hits of a file group, above a base and up to a last timestamp
-  judged : State → Case  -- a step of writer 8, a read of key 32, a scan with too little room, and the instant of timestamp 1
+  judged : State → Case  -- a step of writer 16, a read of key 32, a scan with too little room, and the instant of timestamp 1
 
 -- the answer of the log writer, its byte count and the buffer
 abbrev pub writtenNumbers : LogWritten → List ℕ
@@ -105,7 +106,7 @@ committedNumbers (c ∷ cs) = committedOperation (c .ts) (c .group) (c .operatio
 
 -- a whole history: the last timestamp, what each writer has in progress, the committed operations
 abbrev pub historyNumbers : History → List ℕ
-historyNumbers h = h .last ∷ listBelow 8 (λ w. pendingNumbers (h .pending w)) ++ committedNumbers (h .done)
+historyNumbers h = h .last ∷ listBelow writers (λ w. pendingNumbers (h .pending w)) ++ committedNumbers (h .done)
 
 -- what a search of the timeline gives: 0 for no hit, or 1 and the hit; then the count of the timestamps looked at
 abbrev pub searchNumbers : Search → List ℕ
@@ -144,7 +145,7 @@ result (stored ss n k) = valueNumbers (after ss .stored n k)
 result (onParts st s) = actOnParts true (writerOf st (slotOf (s .writer))) (st .shared) s .answer ∷ []
 result (searched timeline g base last) = searchNumbers (newestAbove timeline g base last)
 result (judged st) =
-    step st (does 8 (Start (Put 32 0 8))) .answer
+    step st (does 16 (Start (Put 32 0 8))) .answer
     ∷ foundNumbers (pointRead st 1 32) ++ listedNumbers (scan st 1 (replicate 2 99)) ++ instantNumbers (instantAt st 1)
 
 -- a case and what it is stated to give

@@ -1,6 +1,7 @@
--- What the definitions give, in one table with one claim about all of it: document 01's traces (Traces to hold it to) that are marked P, and cases for
--- what no law of the whole table says: the stops of numbers and records, the log writer's refusals, histories, instants, the grounds of 17 one by one,
--- the refusals in their order, the erased word (document 02, Q-3), the search of the check and its count (Q-2), tables that no run reaches.
+-- What the definitions give, in one table with one claim about all of it: document 01's traces (Traces to hold it to) that are marked P, with the
+-- writers and timestamps of document 02, Q-6, and cases for what no law of the whole table says: the stops of numbers and records, the log writer's
+-- refusals, histories, instants, the grounds of 17 one by one, the refusals in their order, the erased word (document 02, Q-3), the search of the
+-- check and its count (Q-2), tables that no run reaches.
 use Prim.Native.Nat.{ℕ, _-_}
 use mathlib.Core.Path.{_≡_, refl}
 use mathlib.Core.Bool.{true, false}
@@ -9,6 +10,7 @@ use lib.ListN.{length, replicate, set, take}
 use Rattle.leb128.specs.Coding.{encodedIn, encoded, decodedIn, decodedAt, decodedNumbers}
 use Rattle.common.specs.Counting.{upd, eachBelow, listBelow}
 use Rattle.common.specs.Pasting.{pasted}
+use Rattle.model.specs.Limits.{writers, timestamps}
 use Rattle.model.specs.State.{Shared, State, ready, fresh, requested, inflight, completed, newest, rowAt, cell}
 use Rattle.model.specs.State.{withLast, withLock, withIndex, withTimeline, withPresent, withValues}
 use Rattle.model.specs.Range.{inRange, writersInRange, indexInRange, instantsInRange, noneAbove}
@@ -120,7 +122,7 @@ withEntry s k e = withIndex s (set (s .index) k e)
 
 -- what writers share where these instants are issued, and nothing else is done
 abbrev withInstants : List ℕ → Shared
-withInstants is = withTimeline (withLast (fresh .shared) (length is)) (is ++ replicate (64 - length is) 0)
+withInstants is = withTimeline (withLast (fresh .shared) (length is)) (is ++ replicate (timestamps - length is) 0)
 
 -- eight instants: of those completed, 1 and 7 are in group 0, 2, 4 and 6 in group 1, and 5 is in group 3
 abbrev threeGroups : List ℕ
@@ -128,11 +130,11 @@ threeGroups = completed 0 ∷ completed 1 ∷ requested ∷ completed 1 ∷ comp
 
 -- as many instants as a table has, the last of them completed in group 7
 abbrev lastCompleted : List ℕ
-lastCompleted = replicate 63 requested ++ completed 7 ∷ []
+lastCompleted = replicate 127 requested ++ completed 7 ∷ []
 
 -- all writers are ready
 abbrev table : Shared → State
-table s = record { shared = s; writers = replicate 8 ready }
+table s = record { shared = s; writers = replicate writers ready }
 
 -- a table whose writer w is x
 abbrev withWriter : State → ℕ → Writer → State
@@ -188,7 +190,7 @@ staleRows =
 -- all timestamps are issued, writer 5 holds the lock, writer 1 is at phase 1, and writer 2 at phase 4 with a key of another group
 abbrev refusing : State
 refusing =
-    withWriter (withWriter (table (withEntry (withLock (withInstants (replicate 64 requested)) 6) 0 2)) 1 (busy 1 0 0 1 0)) 2 (busy 4 0 0 2 0)
+    withWriter (withWriter (table (withEntry (withLock (withInstants (replicate 128 requested)) 6) 0 2)) 1 (busy 1 0 0 1 0)) 2 (busy 4 0 0 2 0)
 
 -- two timestamps are completed, writer 5 holds the lock, key 5 is indexed to group 3, and writer 0 is x
 abbrev holding : Writer → State
@@ -198,8 +200,8 @@ holding x = withWriter (table (withEntry (withLock (withInstants (completed 0 �
 abbrev atLargest : ℕ → State
 atLargest n =
     record {
-      shared = withRow 7 1 0 10 (withIndex (withLock (withInstants (replicate n (completed 7))) 8) (replicate 32 8));
-      writers = replicate 8 (busy 6 31 7 n n);
+      shared = withRow 7 1 0 10 (withIndex (withLock (withInstants (replicate n (completed 7))) 16) (replicate 32 8));
+      writers = replicate writers (busy 6 31 7 n n);
     }
 
 -- the same, with something else in what writers share, or in one writer
@@ -282,38 +284,38 @@ traces =
     ∷ (ran (ofList everyKind) 9 gives 0 ∷ 9 ∷ 9 ∷ 0 ∷ 12 ∷ 14 ∷ 14 ∷ 14 ∷ 14 ∷ 14 ∷ 14 ∷ 14 ∷ [])
     ∷ (ran (ofList everyKind) 1 gives 24 ∷ 1 ∷ 1 ∷ 0 ∷ [])
     ∷ (ran (ofList []) 0 gives 0 ∷ 0 ∷ 0 ∷ [])
-    -- answers: P5, also with the commits swapped, to P9; the 64th start and the 65th
+    -- answers: P5, also with the commits swapped, to P9, and a start by the last writer; the 128th start and the 129th
     ∷ (answers fresh (p5 0 1) gives 0 ∷ 0 ∷ 0 ∷ 0 ∷ 0 ∷ 0 ∷ 0 ∷ 0 ∷ 0 ∷ 1 ∷ 0 ∷ 0 ∷ 5 ∷ [])
     ∷ (answers fresh (p5 1 0) gives 0 ∷ 0 ∷ 0 ∷ 0 ∷ 0 ∷ 0 ∷ 0 ∷ 0 ∷ 0 ∷ 1 ∷ 0 ∷ 0 ∷ 5 ∷ [])
     ∷ (answers fresh p6 gives 0 ∷ 0 ∷ 0 ∷ 0 ∷ 0 ∷ 0 ∷ 0 ∷ 0 ∷ 1 ∷ 0 ∷ 0 ∷ 4 ∷ [])
     ∷ (answers fresh p7 gives 0 ∷ 0 ∷ 0 ∷ 0 ∷ 0 ∷ 0 ∷ 0 ∷ 0 ∷ 1 ∷ 0 ∷ 0 ∷ 0 ∷ 0 ∷ 0 ∷ 1 ∷ 0 ∷ 3 ∷ [])
     ∷ (answers fresh p8 gives 0 ∷ 2 ∷ [])
-    ∷ (answers fresh (does 8 (Start (Put 0 0 0)) ∷ does 8 (Start (Put 32 0 0)) ∷ []) gives 10 ∷ 10 ∷ [])
-    ∷ (answers fresh (listBelow 64 startAndAbort ++ startAndAbort 0) gives listBelow 64 (λ n. 0 ∷ 6 ∷ []) ++ 15 ∷ 14 ∷ [])
+    ∷ (answers fresh (does 16 (Start (Put 0 0 0)) ∷ does 16 (Start (Put 32 0 0)) ∷ does 15 (Start (Put 0 0 0)) ∷ []) gives 10 ∷ 10 ∷ 0 ∷ [])
+    ∷ (answers fresh (listBelow 128 startAndAbort ++ startAndAbort 0) gives listBelow 128 (λ n. 0 ∷ 6 ∷ []) ++ 15 ∷ 14 ∷ [])
     -- scans: P10, and two rows with room for 5 numbers and for 8
     ∷ (scanned fresh p10 3 6 gives 0 ∷ 2 ∷ 1 ∷ 10 ∷ 1 ∷ 2 ∷ 20 ∷ 2 ∷ [])
     ∷ (scanned fresh p10 4 6 gives 0 ∷ 2 ∷ 1 ∷ 10 ∷ 1 ∷ 2 ∷ 21 ∷ 2 ∷ [])
     ∷ (scanned fresh (p10 ++ restOf 0) 3 6 gives 0 ∷ 2 ∷ 1 ∷ 11 ∷ 1 ∷ 2 ∷ 20 ∷ 2 ∷ [])
     ∷ (scanned fresh p10 4 5 gives 31 ∷ 0 ∷ 99 ∷ 99 ∷ 99 ∷ 99 ∷ 99 ∷ [])
     ∷ (scanned fresh p10 4 8 gives 0 ∷ 2 ∷ 1 ∷ 10 ∷ 1 ∷ 2 ∷ 21 ∷ 2 ∷ 99 ∷ 99 ∷ [])
-    -- point reads after P10: at the timestamp before the key's put, at that of its second, at one above the last, of a key with no row, and of no key
+    -- point reads after P10: at the timestamp before the key's put, at that of its second, at one past the timeline's end, of a key with no row, and of no key
     ∷ (read fresh p10 1 2 gives 0 ∷ 0 ∷ [])
     ∷ (read fresh p10 4 2 gives 0 ∷ 1 ∷ 21 ∷ 2 ∷ [])
-    ∷ (read fresh p10 100 1 gives 0 ∷ 1 ∷ 10 ∷ 1 ∷ [])
+    ∷ (read fresh p10 129 1 gives 0 ∷ 1 ∷ 10 ∷ 1 ∷ [])
     ∷ (read fresh p10 4 3 gives 0 ∷ 0 ∷ [])
     ∷ (read fresh p10 4 257 gives 12 ∷ [])
     -- histories: operations that ended with 5, 4, 3 and 2 and by an abort are not in progress; one in progress; the group is the table's
-    ∷ (history (p5 0 1) gives 2 ∷ idle 8 ++ committedOperation 1 0 (Put 0 10 0))
-    ∷ (history p6 gives 2 ∷ idle 8 ++ committedOperation 1 0 (Put 1 10 0))
-    ∷ (history p7 gives 3 ∷ idle 8 ++ committedOperation 3 0 (Put 0 12 0) ++ committedOperation 1 0 (Put 0 10 0))
-    ∷ (history p8 gives 1 ∷ idle 8)
-    ∷ (history (startAndAbort 0) gives 1 ∷ idle 8)
-    ∷ (history aborts gives 3 ∷ pendingOperation 3 (Put 1 11 6) ++ idle 7)
+    ∷ (history (p5 0 1) gives 2 ∷ idle writers ++ committedOperation 1 0 (Put 0 10 0))
+    ∷ (history p6 gives 2 ∷ idle writers ++ committedOperation 1 0 (Put 1 10 0))
+    ∷ (history p7 gives 3 ∷ idle writers ++ committedOperation 3 0 (Put 0 12 0) ++ committedOperation 1 0 (Put 0 10 0))
+    ∷ (history p8 gives 1 ∷ idle writers)
+    ∷ (history (startAndAbort 0) gives 1 ∷ idle writers)
+    ∷ (history aborts gives 3 ∷ pendingOperation 3 (Put 1 11 6) ++ idle (writers - 1))
     ∷ (history p10
-    gives 4 ∷ pendingOperation 3 (Put 1 11 1) ++ idle 7
+    gives 4 ∷ pendingOperation 3 (Put 1 11 1) ++ idle (writers - 1)
     ++ committedOperation 4 2 (Put 2 21 2) ++ committedOperation 2 2 (Put 2 20 2) ++ committedOperation 1 1 (Put 1 10 1))
-    ∷ (history beside gives 2 ∷ pendingOperation 1 (Put 0 10 0) ++ idle 7)
-    ∷ (history putAndRemove gives 3 ∷ idle 8 ++ committedOperation 3 1 (Remove 1) ++ committedOperation 2 1 (Put 1 11 5) ++ committedOperation 1 1 (Put 1 10 1))
+    ∷ (history beside gives 2 ∷ pendingOperation 1 (Put 0 10 0) ++ idle (writers - 1))
+    ∷ (history putAndRemove gives 3 ∷ idle writers ++ committedOperation 3 1 (Remove 1) ++ committedOperation 2 1 (Put 1 11 5) ++ committedOperation 1 1 (Put 1 10 1))
     -- what write steps stored: nothing before them; the rows of the base with the key put; also where the operation ends
     ∷ (stored (take 10 secondPut) 2 5 gives 0 ∷ [])
     ∷ (stored (take 11 secondPut) 2 5 gives 1 ∷ 10 ∷ [])
@@ -358,8 +360,8 @@ traces =
     ∷ (stands (holding (busy 2 6 1 2 0)) (does 0 Read ∷ []) 0 6 gives 2 ∷ 6 ∷ 0 ∷ writerNumbers (busy 3 6 1 2 2))
     ∷ (stands (holding (busy 5 6 1 1 2)) (does 0 Check ∷ []) 0 6 gives 2 ∷ 6 ∷ 0 ∷ writerNumbers (busy 6 6 1 1 2))
     -- the last timestamp of all counts for a read and for a check
-    ∷ (answers (withWriter (atLargest 64) 0 (busy 2 31 7 63 0)) (does 0 Read ∷ []) gives 3 ∷ [])
-    ∷ (answers (withWriter (atLargest 64) 0 (busy 5 31 7 64 63)) (does 0 Check ∷ []) gives 5 ∷ [])
+    ∷ (answers (withWriter (atLargest 128) 0 (busy 2 31 7 127 0)) (does 0 Read ∷ []) gives 3 ∷ [])
+    ∷ (answers (withWriter (atLargest 128) 0 (busy 5 31 7 128 127)) (does 0 Check ∷ []) gives 5 ∷ [])
     -- the search of the check: two hits above the base, none, one at the base only; a base equal to the last timestamp, and above it
     ∷ (searched threeGroups 1 2 8 gives 1 ∷ 6 ∷ 3 ∷ [])
     ∷ (searched threeGroups 2 2 8 gives 0 ∷ 6 ∷ [])
@@ -373,9 +375,9 @@ traces =
     ∷ (searched threeGroups 0 1 6 gives 0 ∷ 5 ∷ [])
     ∷ (searched threeGroups 1 6 8 gives 0 ∷ 2 ∷ [])
     -- the last timestamp of all is the hit, is not looked at, and is the base
-    ∷ (searched lastCompleted 7 0 64 gives 1 ∷ 64 ∷ 1 ∷ [])
-    ∷ (searched lastCompleted 7 0 63 gives 0 ∷ 63 ∷ [])
-    ∷ (searched lastCompleted 7 64 64 gives 0 ∷ 0 ∷ [])
+    ∷ (searched lastCompleted 7 0 128 gives 1 ∷ 128 ∷ 1 ∷ [])
+    ∷ (searched lastCompleted 7 0 127 gives 0 ∷ 127 ∷ [])
+    ∷ (searched lastCompleted 7 128 128 gives 0 ∷ 0 ∷ [])
     -- a last timestamp, and a base, past the timeline's end; a file group that does not exist; no instant at all
     ∷ (searched threeGroups 0 6 255 gives 1 ∷ 7 ∷ 249 ∷ [])
     ∷ (searched threeGroups 2 0 255 gives 0 ∷ 255 ∷ [])
@@ -395,18 +397,18 @@ traces =
     ∷ (eachAnswer (atPhase 6) gives 14 ∷ 14 ∷ 14 ∷ 14 ∷ 14 ∷ 14 ∷ 1 ∷ 6 ∷ [])
     -- refusals, each where the later ones apply too: 10, 12 (put and remove), 13, 18 (before 14, and before 15), 14, 15; 14, 16
     ∷ (answers refusing
-    (startErased 8 32 8 ∷ startErased 1 32 8 ∷ does 1 (Start (Remove 32)) ∷ startErased 1 31 8 ∷ startErased 1 31 7 ∷ startErased 0 31 7
+    (startErased 16 32 8 ∷ startErased 1 32 8 ∷ does 1 (Start (Remove 32)) ∷ startErased 1 31 8 ∷ startErased 1 31 7 ∷ startErased 0 31 7
     ∷ does 1 (Start (Put 31 0 7)) ∷ does 0 (Start (Put 31 0 7)) ∷ does 1 Index ∷ does 2 Index ∷ [])
     gives 10 ∷ 12 ∷ 12 ∷ 13 ∷ 18 ∷ 18 ∷ 14 ∷ 15 ∷ 14 ∷ 16 ∷ [])
     -- the erased word: put by a ready writer, and by one at phase 1; with no such group, key and writer; the largest value but one; some of its bits alone
     ∷ (answers fresh
-    (does 1 (Start (Put 1 10 1)) ∷ startErased 0 0 0 ∷ startErased 1 0 0 ∷ startErased 0 0 8 ∷ startErased 0 32 0 ∷ startErased 8 0 0
+    (does 1 (Start (Put 1 10 1)) ∷ startErased 0 0 0 ∷ startErased 1 0 0 ∷ startErased 0 0 8 ∷ startErased 0 32 0 ∷ startErased 16 0 0
     ∷ does 0 (Start (Put 0 4294967294 0)) ∷ does 2 (Start (Put 0 65535 0)) ∷ does 3 (Start (Put 0 2147483647 0)) ∷ [])
     gives 0 ∷ 18 ∷ 18 ∷ 13 ∷ 12 ∷ 10 ∷ 0 ∷ 0 ∷ 0 ∷ [])
     -- its refusal changes nothing in the table or in the history, for a ready writer and for one at phase 1
     ∷ (stands fresh (startErased 0 0 0 ∷ []) 0 0 gives 0 ∷ 0 ∷ 0 ∷ readyNumbers)
     ∷ (stands fresh (does 0 (Start (Put 5 55 3)) ∷ startErased 0 0 0 ∷ []) 0 5 gives 1 ∷ 0 ∷ 0 ∷ writerNumbers (busy 1 5 3 1 0))
-    ∷ (history (does 0 (Start (Put 5 55 3)) ∷ startErased 0 0 0 ∷ startErased 1 0 0 ∷ []) gives 1 ∷ pendingOperation 1 (Put 5 55 3) ++ idle 7)
+    ∷ (history (does 0 (Start (Put 5 55 3)) ∷ startErased 0 0 0 ∷ startErased 1 0 0 ∷ []) gives 1 ∷ pendingOperation 1 (Put 5 55 3) ++ idle (writers - 1))
     -- a log codes it and reads it
     ∷ (written (startErased 0 1 2 ∷ []) 10 0 gives 0 ∷ 9 ∷ startErasedLog ++ 99 ∷ [])
     ∷ (readRecord startErasedLog 0 gives 0 ∷ 9 ∷ 0 ∷ 1 ∷ 1 ∷ 4294967295 ∷ 2 ∷ [])
@@ -423,7 +425,7 @@ traces =
     -- the base is another timestamp, 0, or the writer's own
     ∷ (place 0 1 0 gives 0 ∷ [])
     ∷ (place 2 3 4 gives 580 ∷ [])
-    ∷ (place 7 64 31 gives 16383 ∷ [])
+    ∷ (place 7 128 31 gives 32767 ∷ [])
     ∷ (rows staleRows (does 0 Write ∷ []) (0 ∷ 1 ∷ 2 ∷ 256 ∷ 257 ∷ 258 ∷ 288 ∷ []) gives
     1 ∷ 10 ∷ 0 ∷ 11 ∷ 1 ∷ 12 ∷ 1 ∷ 10 ∷ 0 ∷ 11 ∷ 0 ∷ 7 ∷ 1 ∷ 14 ∷ [])
     ∷ (rows (withWriter staleRows 0 (removing 3 2 0 2 1)) (does 0 Write ∷ []) (257 ∷ 258 ∷ []) gives 0 ∷ 11 ∷ 0 ∷ 0 ∷ [])
@@ -440,50 +442,50 @@ traces =
     ∷ (scanned oneKeyTwice [] 2 6 gives 0 ∷ 2 ∷ 5 ∷ 8 ∷ 0 ∷ 5 ∷ 7 ∷ 1 ∷ [])
     ∷ (read oneKeyTwice [] 2 5 gives 0 ∷ 1 ∷ 8 ∷ 0 ∷ [])
     ∷ (read oneKeyTwice [] 1 5 gives 0 ∷ 1 ∷ 7 ∷ 1 ∷ [])
-    -- in range: every number the largest, with 64 timestamps issued and with 63; a ready writer with a timestamp; a base above the timestamp
-    ∷ (judged (atLargest 64) gives inRangeNumbers)
-    ∷ (judged (atLargest 63) gives inRangeNumbers)
-    ∷ (judged (withWriter (atLargest 63) 0 (busy 0 31 7 63 63)) gives inRangeNumbers)
-    ∷ (judged (withWriter (atLargest 63) 0 (busy 0 31 7 0 63)) gives inRangeNumbers)
-    ∷ (judged (withWriter (atLargest 63) 0 (busy 6 31 7 1 63)) gives inRangeNumbers)
+    -- in range: every number the largest, with all timestamps issued and with 20; a ready writer with a timestamp; a base above the timestamp
+    ∷ (judged (atLargest 128) gives inRangeNumbers)
+    ∷ (judged (atLargest 20) gives inRangeNumbers)
+    ∷ (judged (withWriter (atLargest 20) 0 (busy 0 31 7 20 20)) gives inRangeNumbers)
+    ∷ (judged (withWriter (atLargest 20) 0 (busy 0 31 7 0 20)) gives inRangeNumbers)
+    ∷ (judged (withWriter (atLargest 20) 0 (busy 6 31 7 1 20)) gives inRangeNumbers)
     -- a step on the parts of a table that its caller takes for one in range: 10; 17 for an actor or a last timestamp out of range; else the rules
-    ∷ (onParts (atLargest 64) (does 8 Abort) gives 10 ∷ [])
-    ∷ (onParts (atLargest 64) (does 0 Abort) gives 6 ∷ [])
-    ∷ (onParts (withWriter (atLargest 63) 0 (busy 7 31 7 63 63)) (does 0 Abort) gives 17 ∷ [])
-    ∷ (onParts (withWriter (atLargest 63) 0 (busy 6 31 7 64 63)) (does 0 Abort) gives 17 ∷ [])
-    ∷ (onParts (atLargestBut 64 (λ s. withLast s 65)) (does 0 Abort) gives 17 ∷ [])
-    ∷ (onParts (withWriter (atLargest 63) 0 (busy 7 31 7 63 63)) (does 1 Abort) gives 6 ∷ [])
-    ∷ (onParts (atLargestBut 63 (λ s. withLock s 9)) (does 0 Abort) gives 6 ∷ [])
+    ∷ (onParts (atLargest 128) (does 16 Abort) gives 10 ∷ [])
+    ∷ (onParts (atLargest 128) (does 0 Abort) gives 6 ∷ [])
+    ∷ (onParts (withWriter (atLargest 20) 0 (busy 7 31 7 20 20)) (does 0 Abort) gives 17 ∷ [])
+    ∷ (onParts (withWriter (atLargest 20) 0 (busy 6 31 7 21 20)) (does 0 Abort) gives 17 ∷ [])
+    ∷ (onParts (atLargestBut 128 (λ s. withLast s 129)) (does 0 Abort) gives 17 ∷ [])
+    ∷ (onParts (withWriter (atLargest 20) 0 (busy 7 31 7 20 20)) (does 1 Abort) gives 6 ∷ [])
+    ∷ (onParts (atLargestBut 20 (λ s. withLock s 17)) (does 0 Abort) gives 6 ∷ [])
     -- 17 before the rule's own refusals
-    ∷ (answers (atLargestBut 64 (λ s. withLast s 65)) (startErased 0 32 8 ∷ startErased 0 31 7 ∷ does 0 Abort ∷ []) gives 17 ∷ 17 ∷ 17 ∷ [])
+    ∷ (answers (atLargestBut 128 (λ s. withLast s 129)) (startErased 0 32 8 ∷ startErased 0 31 7 ∷ does 0 Abort ∷ []) gives 17 ∷ 17 ∷ 17 ∷ [])
     -- out of range by one number: the last timestamp; the lock
-    ∷ (judged (atLargestBut 64 (λ s. withLast s 65)) gives outOfRangeNumbers)
-    ∷ (judged (atLargestBut 63 (λ s. withLock s 9)) gives outOfRangeNumbers)
+    ∷ (judged (atLargestBut 128 (λ s. withLast s 129)) gives outOfRangeNumbers)
+    ∷ (judged (atLargestBut 20 (λ s. withLock s 17)) gives outOfRangeNumbers)
     -- of the first writer and of the last: phase, key, group, timestamp, base, timestamp 0 off phase 0; key, group, timestamp, base of a ready writer
-    ∷ (judged (withWriter (atLargest 63) 0 (busy 7 31 7 63 63)) gives outOfRangeNumbers)
-    ∷ (judged (withWriter (atLargest 63) 0 (busy 6 32 7 63 63)) gives outOfRangeNumbers)
-    ∷ (judged (withWriter (atLargest 63) 0 (busy 6 31 8 63 63)) gives outOfRangeNumbers)
-    ∷ (judged (withWriter (atLargest 63) 0 (busy 6 31 7 64 63)) gives outOfRangeNumbers)
-    ∷ (judged (withWriter (atLargest 63) 0 (busy 6 31 7 63 64)) gives outOfRangeNumbers)
-    ∷ (judged (withWriter (atLargest 63) 0 (busy 1 31 7 0 63)) gives outOfRangeNumbers)
-    ∷ (judged (withWriter (atLargest 63) 0 (busy 0 32 7 63 63)) gives outOfRangeNumbers)
-    ∷ (judged (withWriter (atLargest 63) 0 (busy 0 31 8 63 63)) gives outOfRangeNumbers)
-    ∷ (judged (withWriter (atLargest 63) 0 (busy 0 31 7 64 63)) gives outOfRangeNumbers)
-    ∷ (judged (withWriter (atLargest 63) 0 (busy 0 31 7 63 64)) gives outOfRangeNumbers)
-    ∷ (judged (withWriter (atLargest 63) 7 (busy 7 31 7 63 63)) gives outOfRangeNumbers)
-    ∷ (judged (withWriter (atLargest 63) 7 (busy 6 32 7 63 63)) gives outOfRangeNumbers)
-    ∷ (judged (withWriter (atLargest 63) 7 (busy 6 31 8 63 63)) gives outOfRangeNumbers)
-    ∷ (judged (withWriter (atLargest 63) 7 (busy 6 31 7 64 63)) gives outOfRangeNumbers)
-    ∷ (judged (withWriter (atLargest 63) 7 (busy 6 31 7 63 64)) gives outOfRangeNumbers)
-    ∷ (judged (withWriter (atLargest 63) 7 (busy 1 31 7 0 63)) gives outOfRangeNumbers)
+    ∷ (judged (withWriter (atLargest 20) 0 (busy 7 31 7 20 20)) gives outOfRangeNumbers)
+    ∷ (judged (withWriter (atLargest 20) 0 (busy 6 32 7 20 20)) gives outOfRangeNumbers)
+    ∷ (judged (withWriter (atLargest 20) 0 (busy 6 31 8 20 20)) gives outOfRangeNumbers)
+    ∷ (judged (withWriter (atLargest 20) 0 (busy 6 31 7 21 20)) gives outOfRangeNumbers)
+    ∷ (judged (withWriter (atLargest 20) 0 (busy 6 31 7 20 21)) gives outOfRangeNumbers)
+    ∷ (judged (withWriter (atLargest 20) 0 (busy 1 31 7 0 20)) gives outOfRangeNumbers)
+    ∷ (judged (withWriter (atLargest 20) 0 (busy 0 32 7 20 20)) gives outOfRangeNumbers)
+    ∷ (judged (withWriter (atLargest 20) 0 (busy 0 31 8 20 20)) gives outOfRangeNumbers)
+    ∷ (judged (withWriter (atLargest 20) 0 (busy 0 31 7 21 20)) gives outOfRangeNumbers)
+    ∷ (judged (withWriter (atLargest 20) 0 (busy 0 31 7 20 21)) gives outOfRangeNumbers)
+    ∷ (judged (withWriter (atLargest 20) 15 (busy 7 31 7 20 20)) gives outOfRangeNumbers)
+    ∷ (judged (withWriter (atLargest 20) 15 (busy 6 32 7 20 20)) gives outOfRangeNumbers)
+    ∷ (judged (withWriter (atLargest 20) 15 (busy 6 31 8 20 20)) gives outOfRangeNumbers)
+    ∷ (judged (withWriter (atLargest 20) 15 (busy 6 31 7 21 20)) gives outOfRangeNumbers)
+    ∷ (judged (withWriter (atLargest 20) 15 (busy 6 31 7 20 21)) gives outOfRangeNumbers)
+    ∷ (judged (withWriter (atLargest 20) 15 (busy 1 31 7 0 20)) gives outOfRangeNumbers)
     -- the index entry of the first key and of the last
-    ∷ (judged (atLargestBut 63 (λ s. withEntry s 0 9)) gives outOfRangeNumbers)
-    ∷ (judged (atLargestBut 63 (λ s. withEntry s 31 9)) gives outOfRangeNumbers)
+    ∷ (judged (atLargestBut 20 (λ s. withEntry s 0 9)) gives outOfRangeNumbers)
+    ∷ (judged (atLargestBut 20 (λ s. withEntry s 31 9)) gives outOfRangeNumbers)
     -- the group of the first instant and of the last; an instant right above the last timestamp, and one far above
-    ∷ (judged (atLargestBut 64 (λ s. withInstant s 1 (completed 8))) gives outOfRangeNumbers)
-    ∷ (judged (atLargestBut 64 (λ s. withInstant s 64 (completed 8))) gives outOfRangeNumbers)
-    ∷ (judged (atLargestBut 62 (λ s. withInstant s 63 requested)) gives outOfRangeNumbers)
-    ∷ (judged (atLargestBut 62 (λ s. withInstant s 64 requested)) gives outOfRangeNumbers)
+    ∷ (judged (atLargestBut 128 (λ s. withInstant s 1 (completed 8))) gives outOfRangeNumbers)
+    ∷ (judged (atLargestBut 128 (λ s. withInstant s 128 (completed 8))) gives outOfRangeNumbers)
+    ∷ (judged (atLargestBut 20 (λ s. withInstant s 21 requested)) gives outOfRangeNumbers)
+    ∷ (judged (atLargestBut 20 (λ s. withInstant s 128 requested)) gives outOfRangeNumbers)
     ∷ []
 
 pub traces-hold : map (λ (t : Trace). result (t .case)) traces ≡ map (λ (t : Trace). t .stated) traces

@@ -1,99 +1,86 @@
--- `parts_in_range` meets its contract: a test that fails decides, and past the others the last one does. The length of an array is known.
-use mathlib.Core.Bool.{and-false, and-true}
+-- `parts_in_range` meets its contract: what the writers share decides, then each writer. The loop's invariant: each writer passed is in range. The
+-- measure is the number of writers left.
+use Prim.Native.Nat.{ℕ, _-_, _<_, _≤_}
+use native.Mathlib.Omega.{arith}
+use mathlib.Core.Bool.{true}
 use mathlib.Core.Path.{_≡_, sym, _∙_}
-use denote.Ref.{now}
-use lib.ListN.{length}
-use borrow.Author.Tests.{not-true, not-false, le-leb, lt-leb, lt-ltb, le-ltb}
-use Rattle.model.specs.Limits.{keys, timestamps}
-use Rattle.model.specs.Range.{inRange}
-use Rattle.metadata.proofs.Largest.{index-largest, instants-largest, above-largest}
+use lib.ListN.{getD}
+use borrow.Author.Tests.{not-true, not-false}
 use borrow.Author.Needs.{needs}
+use borrow.Author.Count.{below-none, below-more}
+use Rattle.model.specs.Limits.{writers}
+use Rattle.model.specs.State.{ready}
+use Rattle.model.specs.Range.{writerInRange, writersInRange}
+use Rattle.common.proofs.EachBelow.{below-all, below-stop}
+use Rattle.metadata.proofs.RangeTest.{shared-decides, writers-decide}
 use Rattle.metadata.proofs.range.parts_in_range.Statement.{statement}
 use Rattle.metadata.proofs.range.parts_in_range.Tie as tie
 
-cast-if1 : tie.Need-cast-if1
-cast-if1 c = search needs
+abbrev Inv-loop : tie.InvT-loop
+Inv-loop last lock index timeline xs w₀ w = (w ≤ writers) × ((k : ℕ) → k < w → writerInRange last (getD xs k ready) ≡ true)
 
-returns : tie.Need-returns
-unfolding inRange
-returns c = λ s. rw (lt-leb _ _ (c .if1 .taken))
+abbrev μ-loop : tie.MeasureT-loop
+μ-loop last lock index timeline xs w₀ w = writers - w
 
-cast-if2 : tie.Need-cast-if2
-cast-if2 c = search needs
+shared-in-range-requires : tie.Need-shared-in-range-requires Inv-loop μ-loop
+shared-in-range-requires c κs = search needs
 
-returns-2 : tie.Need-returns-2
-unfolding inRange
-returns-2 c = λ s. simp (lt-leb _ _ (c .if2 .taken), and-false)
+returns : tie.Need-returns Inv-loop μ-loop
+returns c = λ s. shared-decides s _ _ _ _ _ (c .before .shared-in-range .ensures) (c .if1 .taken)
 
-writers-in-range-requires : tie.Need-writers-in-range-requires
-writers-in-range-requires c κs = search needs
+loop-holds : tie.Need-loop-holds Inv-loop μ-loop
+loop-holds c = (search needs, below-none _)
 
-returns-3 : tie.Need-returns-3
-unfolding inRange
-returns-3 c = λ s. simp (sym (c .before .writers-in-range .ensures) ∙ not-true _ (c .if3 .taken), and-false)
+mul-writer-in-range : tie.Need-mul-writer-in-range Inv-loop μ-loop
+mul-writer-in-range c = search needs
 
-largest-requires : tie.Need-largest-requires
-largest-requires c κs = search needs
+array-copy-out-writer-in-range : tie.Need-array-copy-out-writer-in-range Inv-loop μ-loop
+array-copy-out-writer-in-range c = search needs
 
-cast-if4 : tie.Need-cast-if4
-cast-if4 c = search needs
+writer-in-range-requires : tie.Need-writer-in-range-requires Inv-loop μ-loop
+writer-in-range-requires c κs = search needs
 
-returns-4 : tie.Need-returns-4
-unfolding inRange
-returns-4 c = λ s. simp (index-largest _ (c .before .largest .ensures) (search needs) ∙ lt-leb _ _ (c .if4 .taken), and-false)
-
-largest-requires-2 : tie.Need-largest-requires-2
-largest-requires-2 c κs = search needs
-
-cast-if5 : tie.Need-cast-if5
-cast-if5 c = search needs
-
-add-if5 : tie.Need-add-if5
-add-if5 c = search needs
-
-returns-5 : tie.Need-returns-5
-unfolding inRange
-returns-5 c = λ s. simp (instants-largest _ (c .before .largest2 .ensures) (search needs) ∙ le-ltb _ _ (c .if5 .taken), and-false)
-
-largest-requires-3 : tie.Need-largest-requires-3
-largest-requires-3 c κs = search needs
-
-returns-6 : tie.Need-returns-6
-unfolding inRange
-returns-6 c =
-    let f = c .before .before in
-    let e = f .before .before .before in
-    let w = e .before .before .before in
-    let a = w .before .before .before .before .args in
-    let i : length (now (a .index)) ≡ keys = search needs in
-    let l : length (now (a .timeline)) ≡ timestamps = search needs in
+returns-2 : tie.Need-returns-2 Inv-loop μ-loop
+unfolding writersInRange
+returns-2 c =
+    let shared = c .before .before .before .before .before in
     λ s.
-    rw (
-      le-leb _ _ (w .before .before .before .if1 .left),
-      le-leb _ _ (w .before .before .if2 .left),
-      sym (w .before .writers-in-range .ensures) ∙ not-false _ (w .if3 .left),
-      index-largest _ (e .before .largest .ensures) i ∙ le-leb _ _ (e .if4 .left),
-      instants-largest _ (f .before .largest2 .ensures) l ∙ lt-ltb _ _ (f .if5 .left),
-      above-largest _ _ (c .largest3 .ensures) l,
-      and-true,
-    )
+    writers-decide s _ _ _ _ _ (shared .before .shared-in-range .ensures) (shared .if1 .left)
+    (below-stop _ writers _ (omega arith) (sym (c .before .writer-in-range .ensures) ∙ not-true _ (c .if2 .taken)))
+
+add-w : tie.Need-add-w Inv-loop μ-loop
+add-w c = search needs
+
+loop-less : tie.Need-loop-less Inv-loop μ-loop
+loop-less c = search needs
+
+loop-again : tie.Need-loop-again Inv-loop μ-loop
+loop-again c =
+    (omega arith, below-more _ _ (c .before .before .before .before .loop .inv .1) (sym (c .before .writer-in-range .ensures) ∙ not-false _ (c .if2 .left)))
+
+returns-3 : tie.Need-returns-3 Inv-loop μ-loop
+unfolding writersInRange
+returns-3 c =
+    let z : c .before .loop .w ≡ writers = omega arith in
+    let shared = c .before .before in
+    λ s.
+    writers-decide s _ _ _ _ _ (shared .before .shared-in-range .ensures) (shared .if1 .left)
+    (below-all _ writers (rw z at (c .before .loop .inv .1)))
 
 pub parts-in-range-spec : {M : Type 1} → statement M
 parts-in-range-spec =
     tie.close
     (tie.spec
-    cast-if1
+    Inv-loop
+    μ-loop
+    shared-in-range-requires
     returns
-    cast-if2
+    loop-holds
+    mul-writer-in-range
+    array-copy-out-writer-in-range
+    writer-in-range-requires
     returns-2
-    writers-in-range-requires
-    returns-3
-    largest-requires
-    cast-if4
-    returns-4
-    largest-requires-2
-    cast-if5
-    add-if5
-    returns-5
-    largest-requires-3
-    returns-6)
+    add-w
+    loop-less
+    loop-again
+    returns-3)
