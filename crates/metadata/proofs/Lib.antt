@@ -1,4 +1,4 @@
 pub mod Largest
 pub mod Looking
 pub mod Search
-pub mod RangeTest
+pub mod Zeros

@@ -1,13 +1,14 @@
 // Answer 17: is every stored number of a table in its range?
 ghost use mathlib.Core.Path.{_≡_};
-ghost use mathlib.Core.Bool.{Bool};
+ghost use mathlib.Core.Bool.{Bool, _&&_};
 ghost use mathlib.Core.List.{List};
 ghost use Prim.Native.Nat.{ℕ, max};
 ghost use lib.ListN.{drop};
 ghost use Rattle.model.specs.State.{State, stateOf};
-ghost use Rattle.model.specs.Range.{writerInRange, inRange};
+ghost use Rattle.model.specs.Range.{writerInRange, writersInRange, inRange};
 ghost use Rattle.metadata.specs.Actor.{actorInRange};
-ghost use Rattle.metadata.specs.Inner.{keepsZeros, sharedInRange};
+ghost use Rattle.metadata.specs.Inner.{keepsZeros};
+ghost use Rattle.model.specs.declared.Writer.{Writer};
 ghost use Rattle.metadata.specs.Largest.{largest};
 ghost use Rattle.metadata.specs.Parts.{withParts};
 use model::Table;
@@ -97,14 +98,14 @@ fn largest(numbers: &[u8], from: usize) -> u8
     most
 }
 
-// Are the numbers that all writers share in range?
+// Are the numbers that all writers share in range? If so, the writers decide.
 fn shared_in_range<'a>(
     last: u8,
     lock: u8,
     index: &'a [u8; KEYS],
     timeline: &'a [u8; TIMESTAMPS],
 ) -> bool
-    ensures { λ r. ⌜ r ≡ sharedInRange last lock (now (index .entry)) (now (timeline .entry)) ⌝ }
+    ensures { λ r. ⌜ ((st : State) (ws : List Writer) → inRange (withParts st last lock ws (now (index .entry)) (now (timeline .entry))) ≡ (r && writersInRange last ws)) ⌝ }
 {
     if last > TIMESTAMPS as u8 {
         return false;

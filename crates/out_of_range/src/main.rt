@@ -1,14 +1,11 @@
 // Answer 17, ground by ground: a table with every number at its largest, then with one number out of range.
-use common::Word;
 use model::Table;
 use model::Value;
 use model::Writer;
 use model::instants::COMPLETED;
 use model::instants::NONE;
 use model::instants::REQUESTED;
-use model::limits::GROUPS;
 use model::limits::KEYS;
-use model::limits::LAST_PHASE;
 use model::limits::ROWS;
 use model::limits::TIMESTAMPS;
 use model::limits::WRITERS;
@@ -18,16 +15,18 @@ use scripts::point_read;
 use scripts::run_printed;
 use scripts::scan_into;
 
-// The largest numbers in range.
-const LAST: u8 = TIMESTAMPS as u8;
+// The largest numbers in range. They are the papers', not the code's limits: a wrong limit does not move them.
+const LAST: u8 = 128;
 
-const LOCK: u8 = WRITERS as u8;
+const LOCK: u8 = 16;
 
-const KEY: u8 = KEYS as u8 - 1;
+const KEY: u8 = 31;
 
-const GROUP: u8 = GROUPS as u8 - 1;
+const GROUP: u8 = 7;
 
-const ENTRY: u8 = GROUPS as u8;
+const ENTRY: u8 = 8;
+
+const PHASE: u8 = 6;
 
 const INSTANT: u8 = COMPLETED + GROUP;
 
@@ -62,13 +61,12 @@ fn table_of(last: u8, lock: u8, entry: u8, instant: u8, writer: Writer, others: 
     }
 }
 
-// On a table whose last row of all is present, that of the last key, file group and timestamp: a step by a writer past the last, as a log and by
-// `advance`, a point read of a key past the last, a scan with room and one without, and the instant call. In range they give 10, 10, 12, the row,
-// 31 and the instant.
+// On a table whose last row of all is present, that of the last key, file group and timestamp: a step by writer 16, as a log and by `advance`,
+// a point read of key 32, a scan with room and one without, and the instant call. In range they give 10, 10, 12, the row, 31 and the instant.
 fn tried(title: &[u8], t: Table) {
     let mut present = [false; ROWS];
     let mut values: [Value; ROWS] = [0; ROWS];
-    let step = [WRITERS as u8, 3];
+    let step = b"\x10\x03";
     present[ROWS - 1] = true;
     values[ROWS - 1] = u32::MAX;
     report::title(title);
@@ -77,7 +75,7 @@ fn tried(title: &[u8], t: Table) {
         &mut present,
         &mut values,
         b"run:",
-        &step,
+        step,
         &mut [99; 1],
         false,
     );
@@ -86,19 +84,19 @@ fn tried(title: &[u8], t: Table) {
         &mut present,
         &mut values,
         b"advance:",
-        &step,
+        step,
         &mut [99; 1],
         true,
     );
-    point_read(t, &present, &values, LAST as u64, KEYS as Word);
+    point_read(t, &present, &values, LAST as u64, 32);
     scan_into(t, &present, &values, LAST as u64, &mut [9; 4]);
     scan_into(t, &present, &values, LAST as u64, &mut [9; 2]);
     instant(t, LAST as u64);
 }
 
 fn of_the_table() {
-    let x = writer(LAST_PHASE, KEY, GROUP, LAST, LAST);
-    let y = writer(LAST_PHASE, KEY, GROUP, LAST - 1, LAST - 1);
+    let x = writer(PHASE, KEY, GROUP, LAST, LAST);
+    let y = writer(PHASE, KEY, GROUP, LAST - 1, LAST - 1);
     tried(b"17: no ground", table_of(LAST, LOCK, ENTRY, INSTANT, x, x));
     tried(
         b"17: last timestamp",
@@ -127,7 +125,7 @@ fn with_writer(x: Writer) -> Table {
         ENTRY,
         INSTANT,
         x,
-        writer(LAST_PHASE, KEY, GROUP, LAST, LAST),
+        writer(PHASE, KEY, GROUP, LAST, LAST),
     )
 }
 
@@ -139,38 +137,38 @@ fn one_left_with_writer(x: Writer) -> Table {
         ENTRY,
         NONE,
         x,
-        writer(LAST_PHASE, KEY, GROUP, LAST - 1, LAST - 1),
+        writer(PHASE, KEY, GROUP, LAST - 1, LAST - 1),
     )
 }
 
 fn of_a_writer() {
     tried(
         b"17: phase",
-        with_writer(writer(LAST_PHASE + 1, KEY, GROUP, LAST, LAST)),
+        with_writer(writer(PHASE + 1, KEY, GROUP, LAST, LAST)),
     );
     tried(
         b"17: key",
-        with_writer(writer(LAST_PHASE, KEY + 1, GROUP, LAST, LAST)),
+        with_writer(writer(PHASE, KEY + 1, GROUP, LAST, LAST)),
     );
     tried(
         b"17: group",
-        with_writer(writer(LAST_PHASE, KEY, GROUP + 1, LAST, LAST)),
+        with_writer(writer(PHASE, KEY, GROUP + 1, LAST, LAST)),
     );
     tried(
         b"17: no ground, one timestamp left",
-        one_left_with_writer(writer(LAST_PHASE, KEY, GROUP, LAST - 1, LAST - 1)),
+        one_left_with_writer(writer(PHASE, KEY, GROUP, LAST - 1, LAST - 1)),
     );
     tried(
         b"17: timestamp",
-        one_left_with_writer(writer(LAST_PHASE, KEY, GROUP, LAST, LAST - 1)),
+        one_left_with_writer(writer(PHASE, KEY, GROUP, LAST, LAST - 1)),
     );
     tried(
         b"17: base",
-        one_left_with_writer(writer(LAST_PHASE, KEY, GROUP, LAST - 1, LAST)),
+        one_left_with_writer(writer(PHASE, KEY, GROUP, LAST - 1, LAST)),
     );
     tried(
         b"17: timestamp 0",
-        with_writer(writer(LAST_PHASE, KEY, GROUP, 0, LAST)),
+        with_writer(writer(PHASE, KEY, GROUP, 0, LAST)),
     );
     tried(
         b"17: no ground, timestamp 0 at phase 0",

@@ -5,11 +5,10 @@ use crate::set::story;
 use model::Table;
 use model::Writer;
 use model::instants::COMPLETED;
-use model::limits::WRITERS;
 
 // Timestamps 3 to 5 are issued and have no instant. Writer 0, at its read step, holds timestamp 1, which is completed in its own file group.
 // Writer 1, at its index step, has a remove of a key that is not indexed. Writer 3 has a base above its timestamp, and its slice has a row already.
-// The last writer is ready and keeps numbers.
+// Writer 15 is ready and keeps numbers.
 fn table_with() -> Table {
     let mut t = bare(5);
     t.timeline[0] = COMPLETED + 2;
@@ -25,7 +24,7 @@ fn table_with() -> Table {
         value: 0,
     };
     t.writers[3] = putting(3, 8, 80, 2, 4, 5);
-    t.writers[WRITERS - 1] = putting(0, 31, 7, 7, 5, 5);
+    t.writers[15] = putting(0, 31, 7, 7, 5, 5);
     t
 }
 

@@ -12,7 +12,6 @@ use Rattle.model.specs.Limits.{writers}
 use Rattle.model.specs.State.{ready}
 use Rattle.model.specs.Range.{writerInRange, writersInRange}
 use Rattle.common.proofs.EachBelow.{below-all, below-stop}
-use Rattle.metadata.proofs.RangeTest.{shared-decides, writers-decide}
 use Rattle.metadata.proofs.range.parts_in_range.Statement.{statement}
 use Rattle.metadata.proofs.range.parts_in_range.Tie as tie
 
@@ -26,7 +25,7 @@ shared-in-range-requires : tie.Need-shared-in-range-requires Inv-loop μ-loop
 shared-in-range-requires c κs = search needs
 
 returns : tie.Need-returns Inv-loop μ-loop
-returns c = λ s. shared-decides s _ _ _ _ _ (c .before .shared-in-range .ensures) (c .if1 .taken)
+returns c = let t = c .before .shared-in-range in λ s. rw (t .ensures, not-true (t .result) (c .if1 .taken))
 
 loop-holds : tie.Need-loop-holds Inv-loop μ-loop
 loop-holds c = (search needs, below-none _)
@@ -44,9 +43,10 @@ returns-2 : tie.Need-returns-2 Inv-loop μ-loop
 unfolding writersInRange
 returns-2 c =
     let shared = c .before .before .before .before .before in
+    let t = shared .before .shared-in-range in
     λ s.
-    writers-decide s _ _ _ _ _ (shared .before .shared-in-range .ensures) (shared .if1 .left)
-    (below-stop _ writers _ (omega arith) (sym (c .before .writer-in-range .ensures) ∙ not-true _ (c .if2 .taken)))
+    rw (t .ensures, not-false (t .result) (shared .if1 .left))
+    (sym (below-stop _ writers _ (omega arith) (sym (c .before .writer-in-range .ensures) ∙ not-true _ (c .if2 .taken))))
 
 add-w : tie.Need-add-w Inv-loop μ-loop
 add-w c = search needs
@@ -63,9 +63,8 @@ unfolding writersInRange
 returns-3 c =
     let z : c .before .loop .w ≡ writers = omega arith in
     let shared = c .before .before in
-    λ s.
-    writers-decide s _ _ _ _ _ (shared .before .shared-in-range .ensures) (shared .if1 .left)
-    (below-all _ writers (rw z at (c .before .loop .inv .1)))
+    let t = shared .before .shared-in-range in
+    λ s. rw (t .ensures, not-false (t .result) (shared .if1 .left)) (sym (below-all _ writers (rw z at (c .before .loop .inv .1))))
 
 pub parts-in-range-spec : {M : Type 1} → statement M
 parts-in-range-spec =

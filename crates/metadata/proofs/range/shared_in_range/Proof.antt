@@ -1,10 +1,12 @@
--- `shared_in_range` meets its contract: a test that fails decides, and past the others the last one does. The length of an array is known.
-use mathlib.Core.Bool.{and-false, and-true}
+-- `shared_in_range` meets its contract: a test that fails decides, and past the others the last one does, with the writers. The length of an array is
+-- known.
+use mathlib.Core.Bool.{and-false, and-true, and-comm}
 use mathlib.Core.Path.{_≡_, _∙_}
 use denote.Ref.{now}
 use lib.ListN.{length}
 use borrow.Author.Tests.{le-leb, lt-leb, lt-ltb, le-ltb}
 use Rattle.model.specs.Limits.{keys, timestamps}
+use Rattle.model.specs.Range.{writersInRange, inRange}
 use Rattle.metadata.proofs.Largest.{index-largest, instants-largest, above-largest}
 use borrow.Author.Needs.{needs}
 use Rattle.metadata.proofs.range.shared_in_range.Statement.{statement}
@@ -14,13 +16,15 @@ cast-if1 : tie.Need-cast-if1
 cast-if1 c = search needs
 
 returns : tie.Need-returns
-returns c = rw (lt-leb _ _ (c .if1 .taken))
+unfolding inRange
+returns c = λ st ws. rw (lt-leb _ _ (c .if1 .taken))
 
 cast-if2 : tie.Need-cast-if2
 cast-if2 c = search needs
 
 returns-2 : tie.Need-returns-2
-returns-2 c = simp (lt-leb _ _ (c .if2 .taken), and-false)
+unfolding inRange
+returns-2 c = λ st ws. simp (lt-leb _ _ (c .if2 .taken), and-false)
 
 largest-requires : tie.Need-largest-requires
 largest-requires c κs = search needs
@@ -29,7 +33,8 @@ cast-if3 : tie.Need-cast-if3
 cast-if3 c = search needs
 
 returns-3 : tie.Need-returns-3
-returns-3 c = simp (index-largest _ (c .before .largest .ensures) (search needs) ∙ lt-leb _ _ (c .if3 .taken), and-false)
+unfolding inRange
+returns-3 c = λ st ws. simp (index-largest _ (c .before .largest .ensures) (search needs) ∙ lt-leb _ _ (c .if3 .taken), and-false)
 
 largest-requires-2 : tie.Need-largest-requires-2
 largest-requires-2 c κs = search needs
@@ -41,18 +46,21 @@ add-if4 : tie.Need-add-if4
 add-if4 c = search needs
 
 returns-4 : tie.Need-returns-4
-returns-4 c = simp (instants-largest _ (c .before .largest2 .ensures) (search needs) ∙ le-ltb _ _ (c .if4 .taken), and-false)
+unfolding inRange
+returns-4 c = λ st ws. simp (instants-largest _ (c .before .largest2 .ensures) (search needs) ∙ le-ltb _ _ (c .if4 .taken), and-false)
 
 largest-requires-3 : tie.Need-largest-requires-3
 largest-requires-3 c κs = search needs
 
 returns-5 : tie.Need-returns-5
+unfolding inRange
 returns-5 c =
     let f = c .before .before in
     let e = f .before .before .before in
     let a = e .before .before .before .before .before .args in
     let i : length (now (a .index)) ≡ keys = search needs in
     let l : length (now (a .timeline)) ≡ timestamps = search needs in
+    λ st ws.
     rw (
       le-leb _ _ (e .before .before .before .before .if1 .left),
       le-leb _ _ (e .before .before .before .if2 .left),
@@ -60,7 +68,7 @@ returns-5 c =
       instants-largest _ (f .before .largest2 .ensures) l ∙ lt-ltb _ _ (f .if4 .left),
       above-largest _ _ (c .largest3 .ensures) l,
       and-true,
-    )
+    ) (and-comm (writersInRange _ ws) _)
 
 pub shared-in-range-spec : {M : Type 1} → statement M
 shared-in-range-spec =

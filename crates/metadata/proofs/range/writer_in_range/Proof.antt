@@ -3,7 +3,7 @@ use mathlib.Core.Bool.{and-true}
 use mathlib.Core.Path.{sym, _∙_}
 use borrow.Author.Needs.{needs}
 use Rattle.common.proofs.Tests.{tests}
-use Rattle.metadata.proofs.RangeTest.{zeros-in-range}
+use Rattle.metadata.proofs.Zeros.{zeros-in-range}
 use Rattle.metadata.proofs.range.writer_in_range.Statement.{statement}
 use Rattle.metadata.proofs.range.writer_in_range.Tie as tie
 
