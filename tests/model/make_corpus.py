@@ -37,7 +37,6 @@ from table_model import (
     Action,
     Answer,
     History,
-    Malformed,
     Phase,
     Put,
     Remove,
@@ -49,11 +48,17 @@ from table_model import (
     encode_number,
     encode_step,
     program,
-    read_record,
+    read_log,
 )
 
 SEED = 20_240_501
-EDGE_VALUES = (0, 1, 127, 128, 16_383, 16_384, 2**31, ERASED_WORD - 1, ERASED_WORD)
+EDGE_VALUES = (
+    *(0, 1, 127, 128, 16_383, 16_384, 2**31),
+    *(2**32 - 1, 2**32, 2**63 - 1, 2**63, ERASED_WORD - 1, ERASED_WORD),
+)
+
+# The step with the longest record.
+LONGEST = Step(MAX_NUMBER, Put(MAX_NUMBER, MAX_NUMBER, MAX_NUMBER))
 
 
 class Draw:
@@ -139,9 +144,9 @@ def random_operation(draw: Draw, table: Table, profile: Profile) -> Put | Remove
         key = draw.among(profile.keys)
     group = draw.among(profile.groups)
     if draw.chance(profile.wild / 2):
-        key = draw.among((KEYS, KEYS + 1, 127, 128, MAX_NUMBER))
+        key = draw.among((KEYS, KEYS + 1, 127, 128, 2**32, MAX_NUMBER))
     if draw.chance(profile.wild / 2):
-        group = draw.among((GROUPS, GROUPS + 1, 127, 128, MAX_NUMBER))
+        group = draw.among((GROUPS, GROUPS + 1, 127, 128, 2**32, MAX_NUMBER))
     if draw.chance(profile.remove):
         return Remove(key)
     return Put(key, draw.among(profile.values), group)
@@ -154,7 +159,7 @@ def random_step(draw: Draw, table: Table, profile: Profile, writer: int) -> Step
         if profile.uneven:
             writer = draw.below(writer + 1)
     if draw.chance(profile.wild / 4):
-        writer = draw.among((WRITERS, WRITERS + 1, 127, 128, 2**31, MAX_NUMBER))
+        writer = draw.among((WRITERS, WRITERS + 1, 127, 128, 2**32, MAX_NUMBER))
         return Step(writer, draw.among([Remove(0), *Action]))
     if draw.chance(profile.give_up):
         return Step(writer, Action.GIVE_UP)
@@ -259,10 +264,12 @@ def refusal_logs() -> Iterator[bytes]:
     """The first refusal that applies is given: 10, 12, 13, 18, 14, 15, 16."""
     starts = [
         Step(writer, operation)
-        for writer in (0, 1, WRITERS, MAX_NUMBER)
+        for writer in (0, 1, WRITERS, 2**32, MAX_NUMBER)
         for operation in (
             Put(32, 5, 8),
             Put(31, 5, 8),
+            Put(2**32, 5, 7),
+            Put(31, 5, 2**32),
             Put(MAX_NUMBER, 5, 7),
             Put(32, ERASED_WORD, 7),
             Put(31, ERASED_WORD, 8),
@@ -289,12 +296,14 @@ def refusal_logs() -> Iterator[bytes]:
 
 def erased_logs() -> Iterator[bytes]:
     """A put of the erased word is refused at its start and changes nothing, whatever
-    its writer has in progress; the value below it is put.
+    its writer has in progress; the value below it is put, and the largest of 32 bits.
     """
-    erased, below = (
-        operation_steps(0, Put(1, value, 1)) for value in (ERASED_WORD, ERASED_WORD - 1)
+    erased, below, narrow = (
+        operation_steps(0, Put(1, value, 1))
+        for value in (ERASED_WORD, ERASED_WORD - 1, 2**32 - 1)
     )
     yield encode([*erased, *below, *erased])
+    yield encode([*erased, *narrow, *erased])
     for taken in range(1, len(below)):
         yield encode([*below[:taken], erased[0], *below[taken:]])
 
@@ -340,26 +349,27 @@ def stop_logs(draw: Draw) -> Iterator[bytes]:
         behind = b"".join(record[place + 1 :])
         return good[place] + b"".join(record[:place]) + bytes.fromhex(number) + behind
 
-    longer = ("80 00", "FF 00", "80 80 00", "81 80 80 00", "80 80 80 80 00")
-    large = (
-        "FF FF FF FF 10",
-        "80 80 80 80 80 00",
-        "FF FF FF FF FF 0F",
-        "FF FF FF FF 7F",
-    )
+    longer = ("80 00", "FF 00", "80 80 00", "81 80 80 00", "80 " * 9 + "00")
+    large = ("FF " * 9 + "02", "80 " * 10 + "00", "FF " * 10 + "01", "FF " * 9 + "7F")
+    fifth_byte = ("FF FF FF FF 10", "FF FF FF FF 7F", "FF FF FF FF FF 0F")
     for place in range(len(record)):
         yield damaged(place, longer[place])
         yield damaged(place, longer[place - 2])
         yield damaged(place, large[place % len(large)])
+        yield damaged(place, fifth_byte[place % len(fifth_byte)])
     for number in ("00", "0A", "FF FF FF FF 0F", "83 00", "81 80 00", "83 80 80 80 10"):
         yield damaged(1, number)
+    yield damaged(1, "83 " + "80 " * 8 + "02")
+    longest = encode_step(LONGEST)
+    yield good[1] + longest
+    yield good[1] + longest[:-1]
     # The first fault in reading order counts, and the kind before its numbers.
     yield good[1] + bytes.fromhex("00 00")
     yield good[1] + bytes.fromhex("00 0A 80 00")
     yield good[1] + bytes.fromhex("80 00 00")
-    yield good[1] + bytes.fromhex("FF FF FF FF")
-    yield good[1] + bytes.fromhex("FF FF FF FF 80")
-    yield good[1] + bytes.fromhex("05 01 80 80 80 80")
+    yield good[1] + bytes.fromhex("FF " * 9)
+    yield good[1] + bytes.fromhex("FF " * 9 + "80")
+    yield good[1] + bytes.fromhex("05 01 " + "80 " * 9)
     yield good[1] + bytes.fromhex("05 02")
     yield bytes.fromhex("80")
     yield bytes.fromhex("00")
@@ -397,7 +407,7 @@ def size_logs(draw: Draw) -> Iterator[bytes]:
     )
     yield encode(shortest)
     log = encode(walk(draw, ALL_KEYS, 800))
-    longest = encode_step(Step(MAX_NUMBER, Put(MAX_NUMBER, MAX_NUMBER, MAX_NUMBER)))
+    longest = encode_step(LONGEST)
     log += longest * ((MAX_INPUT - 10 - len(log)) // len(longest))
     if len(log) % 2 == 1:
         log += encode_step(Step(0, Remove(32)))
@@ -497,17 +507,9 @@ class Checked:
 def check(log: bytes, draw: Draw) -> tuple[list[Answer], Stop]:
     """Run a log against the claims; return its answers and stop."""
     run = Checked()
-    steps: list[Step] = []
-    place = 0
-    stop = Stop.USED_UP
+    steps, stop, place = read_log(log)
     extend = 6 / (1 + len(log))
-    while place < len(log):
-        try:
-            step, place = read_record(log, place)
-        except Malformed as malformed:
-            stop = malformed.stop
-            break
-        steps.append(step)
+    for step in steps:
         last = run.history.last_timestamp
         run.step(step, [0, draw.below(last + 1), last, last + 1, last + 2])
         if draw.chance(extend):

@@ -19,6 +19,7 @@ from collections.abc import Iterator, Sequence
 from dataclasses import replace
 from pathlib import Path
 
+from make_corpus import LONGEST
 from table_model import (
     ERASED_WORD,
     GROUPS,
@@ -42,6 +43,7 @@ from table_model import (
     conflict_search,
     encode,
     encode_number,
+    encode_step,
     latest_completed,
     read_record,
     run_log,
@@ -278,6 +280,8 @@ def traces() -> Iterator[str]:
     starts = step(WRITERS, Put(1, 10, 1)) + step(WRITERS, Put(32, 10, 1))
     low_bytes = step(2**8, Put(1, 10, 1)) + step(0, Put(2**8, 10, 1))
     low_bytes += step(0, Remove(2**16)) + step(0, Put(1, 10, 2**8))
+    low_bytes += step(2**32, Put(1, 10, 1)) + step(0, Put(2**32, 10, 1))
+    low_bytes += step(0, Remove(2**32)) + step(0, Put(1, 10, 2**32))
     yield from story(
         "P9", 0, 1,
         (f"writer {WRITERS}", starts),
@@ -317,7 +321,7 @@ def traces() -> Iterator[str]:
     )
     erased, in_progress = Put(1, ERASED_WORD, 1), whole(1, Put(2, 20, 1))
     yield from story(
-        "The erased word", 1, 2,
+        "The erased word", 1, 3,
         ("by a ready writer", step(0, erased) + step(0, LOOK_UP)),
         (
             "13, 12 and 10 before 18",
@@ -328,6 +332,7 @@ def traces() -> Iterator[str]:
             ],
         ),
         ("the value below it", whole(0, erased._replace(value=ERASED_WORD - 1))),
+        ("the largest of 32 bits", whole(0, Put(3, 2**32 - 1, 2))),
         (
             "at each phase",
             sum(([taken, Step(1, erased)] for taken in in_progress), []),
@@ -375,7 +380,7 @@ def traces() -> Iterator[str]:
         ("document 01's log", EXAMPLE),
         ("record cut short", before[1] + b"\x01"),
         ("number longer than needed", before[2] + b"\x02\x83\x00"),
-        ("number too large", before[3] + b"\xff\xff\xff\xff\x10"),
+        ("number too large", before[3] + b"\xff" * 9 + b"\x02"),
         ("no such kind", before[4] + b"\x04\x0a"),
     )
 
@@ -399,12 +404,12 @@ def calls() -> Iterator[str]:
 
     table = Table()
     yield "== Point reads"
-    puts = Put(1, 10, 1), Put(2, 20, 2), Put(1, 11, 1), Put(2, 21, 2)
+    puts = Put(1, 10, 1), Put(2, 20, 2), Put(1, 11, 1), Put(2, 2**32 + 21, 2)
     log = encode(sum((whole(writer, put) for writer, put in enumerate(puts, 1)), []))
     yield from ran(table, "two keys are put, and put again", log, [0] * 28)[0]
-    for at, key in ((4, 1), (2, 1), (0, 1), (3, 2), (NEVER_ISSUED, 3)):
+    for at, key in ((4, 1), (2, 1), (0, 1), (3, 2), (4, 2), (NEVER_ISSUED, 3)):
         yield point_line(table, at, key)
-    for key in (32, 2**8 + 1, 2**16 + 1, MAX_NUMBER):
+    for key in (32, 2**8 + 1, 2**16 + 1, 2**32 + 1, MAX_NUMBER):
         yield point_line(table, 4, key)
 
     last = MAX_TIMESTAMP
@@ -456,8 +461,9 @@ def encoding() -> Iterator[str]:
         yield written(f"place {place} of 12", answer, count, buffer)
 
     yield "== The number writer"
-    five_bytes = [(MAX_NUMBER, room) for room in (4, 5, 6)]
-    for number, room in ((0, 0), (0, 1), (300, 1), (300, 2), *five_bytes):
+    five_bytes = [(number, room) for number in (2**32 - 1, 2**32) for room in (4, 5)]
+    ten_bytes = [(MAX_NUMBER, room) for room in (9, 10, 11)]
+    for number, room in ((0, 0), (0, 1), (300, 1), (300, 2), *five_bytes, *ten_bytes):
         buffer, code = bytearray(b"\xff" * room), encode_number(number)
         count = len(code) if len(code) <= room else 0
         buffer[:count] = code[:count]
@@ -488,6 +494,7 @@ def reading() -> Iterator[str]:
     no_such_kind = encode_number(0) + encode_number(10)
     removed = step(7, Remove(99)) + step(0, GIVE_UP) + step(10, COMMIT)
     cut = encode(step(0, Put(99, 0, 0)))[:-2]
+    longest = encode_step(LONGEST)
     for title, log in (
         (
             "A put, a look up, and a record of kind 10",
@@ -496,6 +503,7 @@ def reading() -> Iterator[str]:
         ("A remove, a give up and a commit, to the log's end", encode(removed)),
         ("A read, and a put that is cut short", encode(step(0, READ)) + cut),
         ("A writer longer than needed", b"\x80" + encode(look_up)),
+        ("The longest record, and 40 bytes of another", longest + longest[:40]),
         ("No records", b""),
     ):
         yield f"== {title}"

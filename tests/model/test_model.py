@@ -17,6 +17,7 @@ from table_model import (
     ERASED_WORD,
     MAX_INPUT,
     MAX_NUMBER,
+    OLD_CODING,
     Action,
     Answer,
     Committed,
@@ -42,6 +43,7 @@ from table_model import (
     encode_number,
     encode_step,
     program,
+    read_log,
     read_number,
     read_record,
     run_log,
@@ -99,7 +101,7 @@ class TableTest(unittest.TestCase):
 
 
 class TracesOfTheLog(unittest.TestCase):
-    """Document 01's traces P1 to P4, the empty log and the example."""
+    """Document 01's traces P1 to P4, with Q-8, the empty log and the example."""
 
     def test_p1_p2_p3(self) -> None:
         for number, coded in (
@@ -108,7 +110,10 @@ class TracesOfTheLog(unittest.TestCase):
             (128, "80 01"),
             (16_383, "FF 7F"),
             (16_384, "80 80 01"),
-            (MAX_NUMBER, "FF FF FF FF 0F"),
+            (4_294_967_295, "FF FF FF FF 0F"),
+            (4_294_967_296, "80 80 80 80 10"),
+            (4_563_402_751, "FF FF FF FF 10"),
+            (18_446_744_073_709_551_615, "FF FF FF FF FF FF FF FF FF 01"),
         ):
             with self.subTest(number=number):
                 log = bytes.fromhex(coded)
@@ -117,7 +122,7 @@ class TracesOfTheLog(unittest.TestCase):
                 self.assertEqual(coded_size(number), len(log))
 
     def test_p4(self) -> None:
-        for coded, stop in (("80 00", 21), ("FF FF FF FF 10", 22), ("80", 20)):
+        for coded, stop in (("80 00", 21), ("FF " * 9 + "02", 22), ("80", 20)):
             with self.subTest(coded=coded), self.assertRaises(Malformed) as raised:
                 read_number(bytes.fromhex(coded), 0)
             self.assertEqual(raised.exception.stop, stop)
@@ -485,10 +490,10 @@ class Refusals(TableTest):
 
     def test_a_log_codes_the_erased_word(self) -> None:
         step = Step(0, Put(1, ERASED_WORD, 2))
-        log = bytes.fromhex("00 01 01 FF FF FF FF 0F 02")
+        log = bytes.fromhex("00 01 01 FF FF FF FF FF FF FF FF FF 01 02")
         self.assertEqual(encode_step(step), log)
         self.assertEqual(read_record(log, 0), (step, len(log)))
-        self.assertEqual(program(log), "18\nstop 0 at 9\n")
+        self.assertEqual(program(log), "18\nstop 0 at 14\n")
 
 
 class OutOfRange(TableTest):
@@ -634,15 +639,29 @@ class StepLog(unittest.TestCase):
 
     def test_read_back(self) -> None:
         log = encode(self.STEPS)
-        place, steps = 0, []
-        while place < len(log):
-            step, place = read_record(log, place)
-            steps.append(step)
-        self.assertEqual(tuple(steps), self.STEPS)
+        self.assertEqual(read_log(log), ([*self.STEPS], Stop.USED_UP, len(log)))
+
+    def test_old_logs(self) -> None:
+        """Q-8: what the old rule read is read the same, up to what was too large."""
+        draw, stops, wider = random.Random(8), set(), 0
+        numbers = [encode_number(n) for n in (0, 1, 2, 3, 9, 2**28, 2**32 - 1, 2**32)]
+        numbers += [bytes.fromhex(faulty) for faulty in ("0A", "80 00", "80 " * 4)]
+        for _ in range(5_000):
+            log = b"".join(draw.choices(numbers, k=draw.randrange(12)))
+            old, new = read_log(log, OLD_CODING), read_log(log)
+            stops.add(old[1])
+            if old[1] == Stop.TOO_LARGE:
+                self.assertEqual(new[0][: len(old[0])], old[0])
+                wider += old != new
+            else:
+                self.assertEqual(old, new)
+        self.assertEqual(stops, set(Stop) - {Stop.NO_PLACE})
+        self.assertGreater(wider, 0)
 
     def test_records(self) -> None:
-        self.assertEqual(encode_step(self.STEPS[0]).hex(), "000163ffffffff0f8001")
-        self.assertEqual(encode_step(self.STEPS[1]).hex(), "ffffffff0f02808001")
+        largest = "ff" * 9 + "01"
+        self.assertEqual(encode_step(self.STEPS[0]).hex(), f"000163{largest}8001")
+        self.assertEqual(encode_step(self.STEPS[1]).hex(), f"{largest}02808001")
         kinds = [encode_step(step) for step in self.STEPS[2:]]
         self.assertEqual(kinds, [bytes([0xAC, 2, kind]) for kind in range(3, 10)])
 
@@ -664,14 +683,15 @@ class StepLog(unittest.TestCase):
         for coded, stop in (
             ("", 20),
             ("80 80", 20),
-            ("FF FF FF FF", 20),
+            ("FF " * 9, 20),
             ("80 80 00", 21),
             ("80 80 80 00", 21),
-            ("80 80 80 80 00", 21),
-            ("80 80 80 80 10", 22),
-            ("80 80 80 80 80", 22),
-            ("80 80 80 80 80 00", 22),
-            ("FF FF FF FF 8F", 22),
+            ("80 80 80 80 80 00", 21),
+            ("80 " * 9 + "00", 21),
+            ("80 " * 9 + "02", 22),
+            ("80 " * 10, 22),
+            ("80 " * 10 + "00", 22),
+            ("FF " * 9 + "81", 22),
         ):
             with self.subTest(coded=coded), self.assertRaises(Malformed) as raised:
                 read_number(bytes.fromhex(coded), 0)
@@ -685,7 +705,8 @@ class StepLog(unittest.TestCase):
             ("00 0A 80 00", 23),
             ("00 FF FF FF FF 0F", 23),
             ("00 83 00", 21),
-            ("00 83 80 80 80 10", 22),
+            ("00 83 80 80 80 10", 23),
+            ("00 83 " + "80 " * 8 + "02", 22),
             ("80 00 00", 21),
             ("00 01", 20),
             ("00 01 01 01", 20),
@@ -693,7 +714,7 @@ class StepLog(unittest.TestCase):
             ("00 01 01 80 00 00", 21),
             ("00 01 01 01 80 00", 21),
             ("00 02", 20),
-            ("00 02 FF FF FF FF 1F", 22),
+            ("00 02 " + "FF " * 9 + "1F", 22),
         ):
             with self.subTest(coded=coded), self.assertRaises(Malformed) as raised:
                 read_record(bytes.fromhex(coded), 0)

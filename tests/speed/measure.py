@@ -36,7 +36,7 @@ def whole_operation(writer, number):
     if number % 8 == 7:
         start = (writer, 2, 5 * (number - 4) % KEYS)
     else:
-        start = (writer, 1, key, 1_000_000 * number, key % GROUPS)
+        start = (writer, 1, key, 10**15 * number, key % GROUPS)
     rest = [field for kind in range(3, 9) for field in (writer, kind)]
     return b"".join(map(leb128, [*start, *rest]))
 

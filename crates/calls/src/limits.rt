@@ -16,7 +16,7 @@ pub fn limits() {
     limit(b"keys", all.keys as u64);
     limit(b"groups", all.groups as u64);
     limit(b"timestamps", all.timestamps as u64);
-    limit(b"erased word", all.erased_word as u64);
+    limit(b"erased word", all.erased_word);
     limit(b"last phase", all.last_phase as u64);
     limit(b"rows", all.rows as u64);
 }

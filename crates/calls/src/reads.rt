@@ -13,20 +13,22 @@ fn point_reads(t: Table, present: &[bool; ROWS], values: &[Value; ROWS]) {
     point_read(t, present, values, 2, 1);
     point_read(t, present, values, 0, 1);
     point_read(t, present, values, 3, 2);
+    point_read(t, present, values, 4, 2);
     point_read(t, present, values, u64::MAX, 3);
     point_read(t, present, values, 4, 32);
     point_read(t, present, values, 4, 257);
     point_read(t, present, values, 4, 65537);
-    point_read(t, present, values, 4, u32::MAX);
+    point_read(t, present, values, 4, 4294967297);
+    point_read(t, present, values, 4, 18446744073709551615);
 }
 
-// A table with key 1 = 10, then 11, in file group 1 and key 2 = 20, then 21, in group 2.
+// A table with key 1 = 10, then 11, in file group 1 and key 2 = 20, then 4,294,967,317, in group 2.
 pub fn reads() {
     let log = b"\
         \x01\x01\x01\x0a\x01\x01\x03\x01\x04\x01\x05\x01\x06\x01\x07\x01\x08\
         \x02\x01\x02\x14\x02\x02\x03\x02\x04\x02\x05\x02\x06\x02\x07\x02\x08\
         \x03\x01\x01\x0b\x01\x03\x03\x03\x04\x03\x05\x03\x06\x03\x07\x03\x08\
-        \x04\x01\x02\x15\x02\x04\x03\x04\x04\x04\x05\x04\x06\x04\x07\x04\x08";
+        \x04\x01\x02\x95\x80\x80\x80\x10\x02\x04\x03\x04\x04\x04\x05\x04\x06\x04\x07\x04\x08";
     let mut present = [false; ROWS];
     let mut values: [Value; ROWS] = [0; ROWS];
     let mut places = [0u8; 28];

@@ -1,8 +1,8 @@
--- The width of a word: every number of a log, and every value of a table, has so many bits (document 01, The step log).
+-- The width of a word: every number of a log, and every value of a table, has so many bits (document 02, Q-8).
 use Prim.Native.Nat.{ℕ, _^_}
 
 abbrev pub width : ℕ
-width = 32
+width = 64
 
 -- every word is below it
 abbrev pub range : ℕ

@@ -2,6 +2,6 @@
 // and pieces pasted into a buffer.
 
 // A number of a log, of WIDTH bits.
-pub type Word = u32;
+pub type Word = u64;
 
-pub const WIDTH: u32 = 32;
+pub const WIDTH: u32 = 64;

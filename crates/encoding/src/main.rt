@@ -8,6 +8,9 @@ use model::Operation;
 use model::Step;
 use steplog::Written;
 
+// The largest number.
+const LARGEST: Word = 18446744073709551615;
+
 fn put_and_look_up() -> [Step; 2]
     ensures { λ r. ⌜ r ≡ putAndLookUp ⌝ }
 {
@@ -64,9 +67,13 @@ fn number_writer() {
     encode_printed(b"0 into 1", 0, &mut [255; 1]);
     encode_printed(b"300 into 1", 300, &mut [255; 1]);
     encode_printed(b"300 into 2", 300, &mut [255; 2]);
-    encode_printed(b"4294967295 into 4", u32::MAX, &mut [255; 4]);
-    encode_printed(b"4294967295 into 5", u32::MAX, &mut [255; 5]);
-    encode_printed(b"4294967295 into 6", u32::MAX, &mut [255; 6]);
+    encode_printed(b"4294967295 into 4", 4294967295, &mut [255; 4]);
+    encode_printed(b"4294967295 into 5", 4294967295, &mut [255; 5]);
+    encode_printed(b"4294967296 into 4", 4294967296, &mut [255; 4]);
+    encode_printed(b"4294967296 into 5", 4294967296, &mut [255; 5]);
+    encode_printed(b"18446744073709551615 into 9", LARGEST, &mut [255; 9]);
+    encode_printed(b"18446744073709551615 into 10", LARGEST, &mut [255; 10]);
+    encode_printed(b"18446744073709551615 into 11", LARGEST, &mut [255; 11]);
 }
 
 fn main() {

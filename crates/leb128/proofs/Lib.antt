@@ -1,4 +1,5 @@
 pub mod Laws
+pub mod Wider
 pub mod OneToOne
 pub mod Stops
 pub mod Storing

@@ -28,6 +28,8 @@ const ENTRY: u8 = 8;
 
 const PHASE: u8 = 6;
 
+const VALUE: Value = 18446744073709551615;
+
 const INSTANT: u8 = COMPLETED + GROUP;
 
 // A writer with a put of the largest value.
@@ -39,7 +41,7 @@ fn writer(phase: u8, key: u8, group: u8, ts: u8, base: u8) -> Writer {
         group,
         ts,
         base,
-        value: u32::MAX,
+        value: VALUE,
     }
 }
 
@@ -68,7 +70,7 @@ fn tried(title: &[u8], t: Table) {
     let mut values: [Value; ROWS] = [0; ROWS];
     let step = b"\x10\x03";
     present[ROWS - 1] = true;
-    values[ROWS - 1] = u32::MAX;
+    values[ROWS - 1] = VALUE;
     report::title(title);
     run_printed(
         t,

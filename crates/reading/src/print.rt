@@ -16,7 +16,7 @@ fn number(n: u64) {
 // A word of a line, and the number behind it.
 fn field(word: &[u8], n: Word) {
     text(word);
-    number(n as u64);
+    number(n);
 }
 
 pub fn title(s: &[u8]) {

@@ -20,10 +20,6 @@ fn byte(n: u8) {
     number(n as u64);
 }
 
-fn word(n: Word) {
-    number(n as u64);
-}
-
 pub fn title(s: &[u8]) {
     text(b"== ");
     text(s);
@@ -66,7 +62,7 @@ fn cell(at: usize, n: Value) {
     if 0 < at && at % 3 == 0 {
         text(b",");
     }
-    word(n);
+    number(n);
 }
 
 // The first rows of a buffer.
@@ -141,13 +137,13 @@ fn in_group(word: &[u8], group: u8) {
 // What a point read of a key at a timestamp gave.
 pub fn found(key: Word, at: u64, found: Found) {
     text(b"key");
-    word(key);
+    number(key);
     head(b" at", at);
     match found {
         Found::Refused(answer) => refusal(answer),
         Found::Absent => text(b" absent"),
         Found::Present { value, group } => {
-            word(value);
+            number(value);
             in_group(b"", group);
         }
     }

@@ -24,9 +24,9 @@ fn answers(buffer: &[u8], count: usize) {
 // A number of a row, at its place among the row's three.
 fn column(place: usize, number: Word) {
     if place < 2 {
-        field(number as u64, b" ");
+        field(number, b" ");
     } else {
-        field(number as u64, b"\n");
+        field(number, b"\n");
     }
 }
 

@@ -1,7 +1,7 @@
 -- A trace: what is asked of the definitions, and what they are stated to give, in numbers.
 use Prim.Native.Nat.{ℕ}
 use mathlib.Core.Bool.{true, false, cond}
-use mathlib.Core.List.{List, [], _∷_, _++_, map, foldl}
+use mathlib.Core.List.{List, [], _∷_, _++_, flatten, map, foldl}
 use mathlib.Core.Option.{Option, none, some}
 use lib.ListN.{getD, replicate}
 use Rattle.leb128.specs.Coding.{encoded, decodedAt, decodedNumbers}
@@ -22,7 +22,7 @@ use Rattle.model.specs.declared.Step.{Step}
 use Rattle.metadata.specs.Search.{newestAbove}
 use Rattle.metadata.specs.declared.timeline.Search.{Search}
 use Rattle.metadata.specs.declared.timeline.Search.the-variants.{Hit, NoHit}
-use Rattle.steplog.specs.Records.{recordAt, recordNumbers}
+use Rattle.steplog.specs.Records.{numbersOf, recordAt, recordNumbers, LogRead}
 use Rattle.steplog.specs.Writing.{LogWritten, logWritten}
 use Rattle.run.specs.Runs.{Input, Run, runOf}
 use Rattle.rules.specs.Parts.{slotOf, actOnParts}
@@ -31,6 +31,7 @@ pub data Case : Type 0 where
   encode : ℕ → Case  -- a number
   decode : List ℕ → ℕ → Case  -- the number at a place of bytes
   readRecord : List ℕ → ℕ → Case  -- the record at a place of a log
+  readLog : (List ℕ → LogRead) → List ℕ → Case  -- a whole log, under a rule
   written : List Step → ℕ → ℕ → Case  -- the log of steps, written into so many bytes, each 99, from a place on
   ran : Input → ℕ → Case  -- a run from a fresh table, with so many places for answers, each 99
   answers : State → List Step → Case  -- the answers to steps on a table
@@ -50,6 +51,10 @@ pub data Case : Type 0 where
 -- the answer of the log writer, its byte count and the buffer
 abbrev pub writtenNumbers : LogWritten → List ℕ
 writtenNumbers l = l .answer ∷ l .count ∷ l .buffer
+
+-- the stop of a log, the offset of the first record not taken, and the numbers of the steps
+abbrev pub logNumbers : LogRead → List ℕ
+logNumbers r = r .stop ∷ r .offset ∷ flatten (map numbersOf (r .steps))
 
 -- the stop of a run, the count of records taken, the offset of the first one not taken, and the lent answers
 abbrev pub runNumbers : Run State → List ℕ
@@ -130,6 +135,7 @@ unfoldable pub result : Case → List ℕ
 result (encode n) = encoded n
 result (decode bytes at) = decodedNumbers (decodedAt bytes at)
 result (readRecord log at) = recordNumbers (recordAt log at)
+result (readLog rule log) = logNumbers (rule log)
 result (written ss room at) = writtenNumbers (logWritten ss (replicate room 99) at)
 result (ran input places) = runNumbers (runOf input fresh (replicate places 99))
 result (answers st ss) = answersFrom commitMachine st ss

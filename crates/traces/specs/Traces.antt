@@ -1,7 +1,7 @@
 -- What the definitions give, in one table with one claim about all of it: document 01's traces (Traces to hold it to) that are marked P, with the
--- writers and timestamps of document 02, Q-6, and cases for what no law of the whole table says: the stops of numbers and records, the log writer's
--- refusals, histories, instants, the grounds of 17 one by one, the refusals in their order, the erased word (document 02, Q-3), the search of the
--- check and its count (Q-2), tables that no run reaches.
+-- writers and timestamps of document 02, Q-6, and the numbers of Q-8; and cases for what no law of the whole table says: the stops of numbers and
+-- records, logs of the old rule, the log writer's refusals, histories, instants, the grounds of 17 one by one, the refusals in their order, the erased
+-- word (document 02, Q-3), the search of the check and its count (Q-2), tables that no run reaches.
 use Prim.Native.Nat.{ℕ, _-_}
 use mathlib.Core.Path.{_≡_, refl}
 use mathlib.Core.Bool.{true, false}
@@ -27,10 +27,10 @@ use Rattle.model.specs.declared.Action.the-variants.{Start, LookUp, Read, Write
 use Rattle.model.specs.declared.Step.{Step}
 use Rattle.metadata.specs.Largest.{largest}
 use Rattle.metadata.specs.Search.{upTo, newestAbove}
-use Rattle.steplog.specs.Records.{encodedStep, ofKind, argumentsBy, recordBy, recordNumbers}
+use Rattle.steplog.specs.Records.{encodedStep, ofKind, argumentsBy, recordBy, recordNumbers, logReadFrom, logRead, oldLogRead}
 use Rattle.steplog.specs.Writing.{logWritten}
 use Rattle.run.specs.Runs.{ofLog, ofList, runFrom, runOf}
-use Rattle.traces.specs.Cases.{encode, decode, readRecord, written, ran, answers, eachAnswer, scanned, read, stands}
+use Rattle.traces.specs.Cases.{encode, decode, readRecord, readLog, written, ran, answers, eachAnswer, scanned, read, stands}
 use Rattle.rules.specs.Parts.{actOnParts}
 use Rattle.traces.specs.Cases.{onParts, place, rows, instants, history, stored, searched, judged}
 use Rattle.traces.specs.Cases.{writerNumbers, pendingOperation, committedOperation, does, result, Trace, _gives_}
@@ -99,12 +99,37 @@ everyKindLog =
     0x00 ∷ 0x01 ∷ 0x01 ∷ 0xAC ∷ 0x02 ∷ 0x02 ∷ 0x01 ∷ 0x02 ∷ 0x63 ∷ 0x02 ∷ 0x03 ∷ 0x02 ∷ 0x04 ∷ 0x02 ∷ 0x05 ∷ 0x02 ∷ 0x06 ∷ 0x02 ∷ 0x07
     ∷ 0x02 ∷ 0x08 ∷ 0x02 ∷ 0x09 ∷ []
 
+-- the largest number, and its code
+abbrev largestNumber : ℕ
+largestNumber = 18446744073709551615
+
+abbrev largestCode : List ℕ
+largestCode = replicate 9 0xFF ++ 0x01 ∷ []
+
+-- a start of a put whose every number is the largest, and its log: no record is longer
+abbrev longestStart : Step
+longestStart = does largestNumber (Start (Put largestNumber largestNumber largestNumber))
+
+abbrev longestLog : List ℕ
+longestLog = largestCode ++ 0x01 ∷ largestCode ++ largestCode ++ largestCode
+
 -- writer w starts a put of the erased word, and the log of such a start
 abbrev startErased : ℕ → ℕ → ℕ → Step
-startErased w k g = does w (Start (Put k 4294967295 g))
+startErased w k g = does w (Start (Put k largestNumber g))
 
 abbrev startErasedLog : List ℕ
-startErasedLog = 0x00 ∷ 0x01 ∷ 0x01 ∷ 0xFF ∷ 0xFF ∷ 0xFF ∷ 0xFF ∷ 0x0F ∷ 0x02 ∷ []
+startErasedLog = 0x00 ∷ 0x01 ∷ 0x01 ∷ largestCode ++ 0x02 ∷ []
+
+-- a remove of the largest key of the old rule; the same, and behind it a remove of a key whose fifth byte was too large
+abbrev oldLargestLog : List ℕ
+oldLargestLog = 0x00 ∷ 0x02 ∷ 0xFF ∷ 0xFF ∷ 0xFF ∷ 0xFF ∷ 0x0F ∷ []
+
+abbrev pastOldLog : List ℕ
+pastOldLog = oldLargestLog ++ 0x00 ∷ 0x02 ∷ 0xFF ∷ 0xFF ∷ 0xFF ∷ 0xFF ∷ 0x10 ∷ []
+
+-- a put of a value whose lowest 32 bits are those of 1
+abbrev wideValue : Operation
+wideValue = Put 1 4294967297 2
 
 -- a look up, then a record whose kind is none
 abbrev badKindLog : List ℕ
@@ -160,7 +185,7 @@ atPhase p = oneInflight (busy p 0 0 1 0)
 
 -- the same, where its value is the erased word
 abbrev erasedAtPhase : ℕ → State
-erasedAtPhase p = oneInflight (putting 4294967295 p 0 0 1 0)
+erasedAtPhase p = oneInflight (putting largestNumber p 0 0 1 0)
 
 -- timestamp 1 is completed in group 0, and another writer holds it in group 1
 abbrev otherGroupsTimestamp : State
@@ -200,8 +225,8 @@ holding x = withWriter (table (withEntry (withLock (withInstants (completed 0 �
 abbrev atLargest : ℕ → State
 atLargest n =
     record {
-      shared = withRow 7 1 0 10 (withIndex (withLock (withInstants (replicate n (completed 7))) 16) (replicate 32 8));
-      writers = replicate writers (busy 6 31 7 n n);
+      shared = withRow 7 1 0 largestNumber (withIndex (withLock (withInstants (replicate n (completed 7))) 16) (replicate 32 8));
+      writers = replicate writers (putting largestNumber 6 31 7 n n);
     }
 
 -- the same, with something else in what writers share, or in one writer
@@ -239,22 +264,27 @@ isCompleted g = 0 ∷ 3 ∷ g ∷ []
 
 pub traces : List Trace
 traces =
-    -- numbers: P1 to P4
+    -- numbers: P1 to P4, the second case of P4 as document 02, Q-8 has it, and numbers above P3's
     (encode 0 gives 0x00 ∷ [])
     ∷ (encode 127 gives 0x7F ∷ [])
     ∷ (encode 128 gives 0x80 ∷ 0x01 ∷ [])
     ∷ (encode 16383 gives 0xFF ∷ 0x7F ∷ [])
     ∷ (encode 16384 gives 0x80 ∷ 0x80 ∷ 0x01 ∷ [])
     ∷ (encode 4294967295 gives 0xFF ∷ 0xFF ∷ 0xFF ∷ 0xFF ∷ 0x0F ∷ [])
+    ∷ (encode 4294967296 gives 0x80 ∷ 0x80 ∷ 0x80 ∷ 0x80 ∷ 0x10 ∷ [])
+    ∷ (encode largestNumber gives largestCode)
     ∷ (decode (0x80 ∷ 0x00 ∷ []) 0 gives 21 ∷ [])
-    ∷ (decode (0xFF ∷ 0xFF ∷ 0xFF ∷ 0xFF ∷ 0x10 ∷ []) 0 gives 22 ∷ [])
+    ∷ (decode (replicate 9 0xFF ++ 0x02 ∷ []) 0 gives 22 ∷ [])
     ∷ (decode (0x80 ∷ []) 0 gives 20 ∷ [])
-    -- numbers read, with the place behind them; the stops at a fifth byte; at the end of the bytes and past it
-    ∷ (decode (0xFF ∷ 0xFF ∷ 0xFF ∷ 0xFF ∷ 0x0F ∷ 0x00 ∷ []) 0 gives 0 ∷ 4294967295 ∷ 5 ∷ [])
+    -- numbers read, with the place behind them; the stops at a tenth byte, and none at a fifth; at the end of the bytes and past it
+    ∷ (decode (largestCode ++ 0x00 ∷ []) 0 gives 0 ∷ largestNumber ∷ 10 ∷ [])
     ∷ (decode (0x80 ∷ 0x01 ∷ 0x00 ∷ []) 2 gives 0 ∷ 0 ∷ 3 ∷ [])
-    ∷ (decode (0x80 ∷ 0x80 ∷ 0x80 ∷ 0x80 ∷ 0x00 ∷ []) 0 gives 21 ∷ [])
-    ∷ (decode (0x80 ∷ 0x80 ∷ 0x80 ∷ 0x80 ∷ 0x80 ∷ 0x00 ∷ []) 0 gives 22 ∷ [])
-    ∷ (decode (0xFF ∷ 0xFF ∷ 0xFF ∷ 0xFF ∷ []) 0 gives 20 ∷ [])
+    ∷ (decode (replicate 9 0x80 ++ 0x00 ∷ []) 0 gives 21 ∷ [])
+    ∷ (decode (replicate 10 0x80 ++ 0x00 ∷ []) 0 gives 22 ∷ [])
+    ∷ (decode (replicate 9 0xFF) 0 gives 20 ∷ [])
+    ∷ (decode (0xFF ∷ 0xFF ∷ 0xFF ∷ 0xFF ∷ 0x0F ∷ 0x00 ∷ []) 0 gives 0 ∷ 4294967295 ∷ 5 ∷ [])
+    ∷ (decode (0xFF ∷ 0xFF ∷ 0xFF ∷ 0xFF ∷ 0x10 ∷ []) 0 gives 0 ∷ 4563402751 ∷ 5 ∷ [])
+    ∷ (decode (0x80 ∷ 0x80 ∷ 0x80 ∷ 0x80 ∷ 0x80 ∷ 0x00 ∷ []) 0 gives 21 ∷ [])
     ∷ (decode (0x00 ∷ []) 1 gives 20 ∷ [])
     ∷ (decode (0x00 ∷ []) 2 gives 20 ∷ [])
     -- records: the place behind them and their numbers; the end of the log and past it; a kind that is none, with nothing behind it
@@ -266,8 +296,18 @@ traces =
     ∷ (readRecord badKindLog 2 gives 23 ∷ [])
     ∷ (readRecord (0x00 ∷ 0x00 ∷ []) 0 gives 23 ∷ [])
     ∷ (readRecord (0x00 ∷ 0x02 ∷ []) 0 gives 20 ∷ [])
-    -- logs written: each kind; a log that just fits, and no step; no room, at the end too; past the end, with no step too
+    -- the longest record, and what there is of it before its last byte
+    ∷ (readRecord longestLog 0 gives 0 ∷ 41 ∷ largestNumber ∷ 1 ∷ largestNumber ∷ largestNumber ∷ largestNumber ∷ [])
+    ∷ (readRecord (take 40 longestLog) 0 gives 20 ∷ [])
+    -- logs under the old rule and under this one
+    ∷ (readLog oldLogRead oldLargestLog gives 0 ∷ 7 ∷ 0 ∷ 2 ∷ 4294967295 ∷ [])
+    ∷ (readLog logRead oldLargestLog gives 0 ∷ 7 ∷ 0 ∷ 2 ∷ 4294967295 ∷ [])
+    ∷ (readLog oldLogRead pastOldLog gives 22 ∷ 7 ∷ 0 ∷ 2 ∷ 4294967295 ∷ [])
+    ∷ (readLog logRead pastOldLog gives 0 ∷ 14 ∷ 0 ∷ 2 ∷ 4294967295 ∷ 0 ∷ 2 ∷ 4563402751 ∷ [])
+    -- logs written: each kind; the longest record; a log that just fits, and no step; no room, at the end too; past the end, with no step too
     ∷ (written everyKind 26 2 gives 0 ∷ 23 ∷ 99 ∷ 99 ∷ everyKindLog ++ 99 ∷ [])
+    ∷ (written (longestStart ∷ []) 41 0 gives 0 ∷ 41 ∷ longestLog)
+    ∷ (written (longestStart ∷ []) 40 0 gives 26 ∷ 0 ∷ replicate 40 99)
     ∷ (written (does 0 LookUp ∷ []) 3 1 gives 0 ∷ 2 ∷ 99 ∷ 0x00 ∷ 0x03 ∷ [])
     ∷ (written [] 3 3 gives 0 ∷ 0 ∷ 99 ∷ 99 ∷ 99 ∷ [])
     ∷ (written (does 0 LookUp ∷ []) 3 2 gives 26 ∷ 0 ∷ 99 ∷ 99 ∷ 99 ∷ [])
@@ -304,6 +344,7 @@ traces =
     ∷ (read fresh p10 129 1 gives 0 ∷ 1 ∷ 10 ∷ 1 ∷ [])
     ∷ (read fresh p10 4 3 gives 0 ∷ 0 ∷ [])
     ∷ (read fresh p10 4 257 gives 12 ∷ [])
+    ∷ (read fresh p10 4 4294967298 gives 12 ∷ [])
     -- histories: operations that ended with 5, 4, 3 and 2 and by an abort are not in progress; one in progress; the group is the table's
     ∷ (history (p5 0 1) gives 2 ∷ idle writers ++ committedOperation 1 0 (Put 0 10 0))
     ∷ (history p6 gives 2 ∷ idle writers ++ committedOperation 1 0 (Put 1 10 0))
@@ -403,24 +444,29 @@ traces =
     -- the erased word: put by a ready writer, and by one at phase 1; with no such group, key and writer; the largest value but one; some of its bits alone
     ∷ (answers fresh
     (does 1 (Start (Put 1 10 1)) ∷ startErased 0 0 0 ∷ startErased 1 0 0 ∷ startErased 0 0 8 ∷ startErased 0 32 0 ∷ startErased 16 0 0
-    ∷ does 0 (Start (Put 0 4294967294 0)) ∷ does 2 (Start (Put 0 65535 0)) ∷ does 3 (Start (Put 0 2147483647 0)) ∷ [])
+    ∷ does 0 (Start (Put 0 18446744073709551614 0)) ∷ does 2 (Start (Put 0 4294967295 0)) ∷ does 3 (Start (Put 0 9223372036854775807 0)) ∷ [])
     gives 0 ∷ 18 ∷ 18 ∷ 13 ∷ 12 ∷ 10 ∷ 0 ∷ 0 ∷ 0 ∷ [])
     -- its refusal changes nothing in the table or in the history, for a ready writer and for one at phase 1
     ∷ (stands fresh (startErased 0 0 0 ∷ []) 0 0 gives 0 ∷ 0 ∷ 0 ∷ readyNumbers)
     ∷ (stands fresh (does 0 (Start (Put 5 55 3)) ∷ startErased 0 0 0 ∷ []) 0 5 gives 1 ∷ 0 ∷ 0 ∷ writerNumbers (busy 1 5 3 1 0))
     ∷ (history (does 0 (Start (Put 5 55 3)) ∷ startErased 0 0 0 ∷ startErased 1 0 0 ∷ []) gives 1 ∷ pendingOperation 1 (Put 5 55 3) ++ idle (writers - 1))
     -- a log codes it and reads it
-    ∷ (written (startErased 0 1 2 ∷ []) 10 0 gives 0 ∷ 9 ∷ startErasedLog ++ 99 ∷ [])
-    ∷ (readRecord startErasedLog 0 gives 0 ∷ 9 ∷ 0 ∷ 1 ∷ 1 ∷ 4294967295 ∷ 2 ∷ [])
-    ∷ (ran (ofLog startErasedLog) 2 gives 0 ∷ 1 ∷ 9 ∷ 18 ∷ 99 ∷ [])
+    ∷ (written (startErased 0 1 2 ∷ []) 15 0 gives 0 ∷ 14 ∷ startErasedLog ++ 99 ∷ [])
+    ∷ (readRecord startErasedLog 0 gives 0 ∷ 14 ∷ 0 ∷ 1 ∷ 1 ∷ largestNumber ∷ 2 ∷ [])
+    ∷ (ran (ofLog startErasedLog) 2 gives 0 ∷ 1 ∷ 14 ∷ 18 ∷ 99 ∷ [])
     -- only the start of its put is refused: a writer that has it already, which no run reaches, goes on, gives up and starts as any other
-    ∷ (scanned (erasedAtPhase 1) (restOf 0) 1 3 gives 0 ∷ 1 ∷ 0 ∷ 4294967295 ∷ 0 ∷ [])
+    ∷ (scanned (erasedAtPhase 1) (restOf 0) 1 3 gives 0 ∷ 1 ∷ 0 ∷ largestNumber ∷ 0 ∷ [])
     ∷ (eachAnswer (erasedAtPhase 0) gives 0 ∷ 14 ∷ 14 ∷ 14 ∷ 14 ∷ 14 ∷ 14 ∷ 14 ∷ [])
     ∷ (eachAnswer (erasedAtPhase 1) gives 14 ∷ 0 ∷ 14 ∷ 14 ∷ 14 ∷ 14 ∷ 14 ∷ 6 ∷ [])
     -- writers, keys and groups whose lowest bits name one
     ∷ (answers fresh
-    (does 256 (Start (Put 0 0 0)) ∷ does 0 (Start (Put 256 0 0)) ∷ does 0 (Start (Remove 65536)) ∷ does 0 (Start (Put 0 0 256)) ∷ [])
-    gives 10 ∷ 12 ∷ 12 ∷ 13 ∷ [])
+    (does 256 (Start (Put 0 0 0)) ∷ does 0 (Start (Put 256 0 0)) ∷ does 0 (Start (Remove 65536)) ∷ does 0 (Start (Put 0 0 256))
+    ∷ does 4294967296 (Start (Put 0 0 0)) ∷ does 0 (Start (Put 4294967296 0 0)) ∷ does 0 (Start (Put 0 0 4294967296)) ∷ [])
+    gives 10 ∷ 12 ∷ 12 ∷ 13 ∷ 10 ∷ 12 ∷ 13 ∷ [])
+    -- a value of more than 32 bits: in the writer's record, in a scan and in a point read
+    ∷ (stands fresh (does 0 (Start wideValue) ∷ []) 0 1 gives 1 ∷ 0 ∷ 0 ∷ 1 ∷ 1 ∷ 1 ∷ 2 ∷ 1 ∷ 0 ∷ 4294967297 ∷ [])
+    ∷ (scanned fresh (whole 0 wideValue) 1 3 gives 0 ∷ 1 ∷ 1 ∷ 4294967297 ∷ 2 ∷ [])
+    ∷ (read fresh (whole 0 wideValue) 1 1 gives 0 ∷ 1 ∷ 4294967297 ∷ 2 ∷ [])
     -- rows: the first place, one between and the last; a write step stores every row of its slice, absent ones with their value, and no other;
     -- the base is another timestamp, 0, or the writer's own
     ∷ (place 0 1 0 gives 0 ∷ [])
@@ -493,5 +539,5 @@ unfolding traces result actOnParts encoded encodedIn decodedAt decodedIn decoded
     start lookUp readBase writeSlice enterIndex checkConflict commit abort inRange eachBelow writersInRange indexInRange instantsInRange noneAbove
     newest largest upTo newestAbove cell copied sliced fresh scan rowsAt numbers listBelow pointRead instantState instantAt
     upd empty startRecorded commitRecorded endRecorded recorded storedBy
-    encodedStep ofKind argumentsBy recordBy recordNumbers logWritten pasted flatten runFrom runOf
+    encodedStep ofKind argumentsBy recordBy recordNumbers logReadFrom logRead logWritten pasted flatten runFrom runOf
 traces-hold = refl

@@ -1,8 +1,10 @@
 -- The parts of the printed text, in ASCII: each answer in decimal on its own line, the stop, and the rows of a scan (document 01, The step log, the program).
-use Prim.Native.Nat.{ℕ, zero, suc, _+_, _-_, _*_, _/_, _%_}
+use Prim.Native.Nat.{ℕ, zero, suc, _+_, _-_, _*_, _/_, _%_, _^_, _≤_, _<_}
+use native.Mathlib.Omega.{arith}
 use mathlib.Core.Bool.{cond}
 use mathlib.Core.List.{List, [], _∷_, _++_, flatten, map}
 use lib.Dec.{ltb}
+use Rattle.common.specs.Width.{range}
 use Rattle.model.specs.Snapshot.{Row}
 
 abbrev pub newline : ℕ
@@ -15,16 +17,20 @@ space = 32
 abbrev pub zeroDigit : ℕ
 zeroDigit = 48
 
--- the most digits of a 64-bit number
+-- the most digits of a word
 abbrev pub maxDigits : ℕ
 maxDigits = 20
+
+-- no word has more, and some have as many
+pub digits-fit : (range ≤ 10 ^ maxDigits) × (10 ^ (maxDigits - 1) < range)
+digits-fit = omega arith
 
 -- n in decimal, with at most k digits before its last
 unfoldable pub decimalIn : ℕ → ℕ → List ℕ
 decimalIn zero n = (zeroDigit + n) ∷ []
 decimalIn (suc k) n = cond (ltb n 10) ((zeroDigit + n) ∷ []) (decimalIn k (n / 10) ++ (zeroDigit + n % 10) ∷ [])
 
--- a number of at most 64 bits in decimal
+-- a word in decimal
 unfoldable pub decimal : ℕ → List ℕ
 decimal n = decimalIn (maxDigits - 1) n
 
@@ -55,7 +61,8 @@ rowLine r = field (r .key) space ++ field (r .value) space ++ field (r .group) n
 unfoldable pub rowLines : List Row → List ℕ
 rowLines rows = flatten (map rowLine rows)
 
--- room for the text of a run: an answer has at most three digits, the stop three and its offset twenty, a number of a row twenty; then words and line ends
+-- room for the text of a run: an answer has at most three digits, the stop three, its offset and each number of a row as many as a word; then
+-- words and line ends
 abbrev pub answerRoom : ℕ
 answerRoom = 3 + 1
 

@@ -17,7 +17,7 @@ const MAX_ANSWERS: usize = MAX_LOG / 2;
 // Room for the rows of a scan, three numbers each: no key stands in two file groups.
 const MAX_NUMBERS: usize = 3 * KEYS;
 
-// The most digits of a 64-bit number.
+// The most digits of a word.
 const MAX_DIGITS: usize = 20;
 
 // Room for an answer, a byte, on its line.

@@ -8,10 +8,10 @@ ghost use Rattle.transcript.specs.Inner.{numberLines, runText};
 use common::Word;
 
 // The digit 0 in ASCII.
-const ZERO: u64 = 48;
+const ZERO: Word = 48;
 
 // A number in decimal: the digits before its last, if there are any, and its last.
-fn put_decimal(text: &mut [u8], at: usize, number: u64) -> usize
+fn put_decimal(text: &mut [u8], at: usize, number: Word) -> usize
     requires { ⌜ at + length (decimal number) ≤ length (now text) ⌝ }
     ensures { λ r. ⌜ Pastes text at (decimal number) r ⌝ }
 {
@@ -38,7 +38,7 @@ pub fn put_bytes(text: &mut [u8], at: usize, bytes: &[u8]) -> usize
 }
 
 // A number in decimal, and the byte behind it.
-fn put_field(text: &mut [u8], at: usize, number: u64, end: u8) -> usize
+fn put_field(text: &mut [u8], at: usize, number: Word, end: u8) -> usize
     requires { ⌜ at + length (field number end) ≤ length (now text) ⌝ }
     ensures { λ r. ⌜ Pastes text at (field number end) r ⌝ }
 {
@@ -55,7 +55,7 @@ fn put_answers(text: &mut [u8], at: usize, answers: &[u8], count: usize) -> usiz
     let mut next = at;
     let mut i: usize = 0;
     while i < count {
-        next = put_field(text, next, answers[i] as u64, b'\n');
+        next = put_field(text, next, answers[i] as Word, b'\n');
         i += 1;
     }
     next
@@ -67,9 +67,9 @@ fn put_stop(text: &mut [u8], at: usize, stop: u8, offset: usize) -> usize
     ensures { λ r. ⌜ Pastes text at (stopLine stop offset) r ⌝ }
 {
     let a = put_bytes(text, at, b"stop ");
-    let b = put_decimal(text, a, stop as u64);
+    let b = put_decimal(text, a, stop as Word);
     let c = put_bytes(text, b, b" at ");
-    put_field(text, c, offset as u64, b'\n')
+    put_field(text, c, offset as Word, b'\n')
 }
 
 // The line `key value group` of a row.
@@ -77,9 +77,9 @@ fn put_row(text: &mut [u8], at: usize, key: Word, value: Word, group: Word) -> u
     requires { ⌜ at + length (rowLine (row key value group)) ≤ length (now text) ⌝ }
     ensures { λ r. ⌜ Pastes text at (rowLine (row key value group)) r ⌝ }
 {
-    let a = put_field(text, at, key as u64, b' ');
-    let b = put_field(text, a, value as u64, b' ');
-    put_field(text, b, group as u64, b'\n')
+    let a = put_field(text, at, key, b' ');
+    let b = put_field(text, a, value, b' ');
+    put_field(text, b, group, b'\n')
 }
 
 // The first `count` rows of some numbers, three a row, each on its own line.

@@ -16,7 +16,7 @@ fn print_bytes(bytes: &[u8]) {
 fn print_number(number: Word) {
     let mut buffer = [0u8; 16];
     let size = leb128::encode(number, &mut buffer);
-    io::print_decimal(STDOUT_FILENO, number as u64);
+    io::print_decimal(STDOUT_FILENO, number);
     io::write_all(STDOUT_FILENO, b" ");
     print_bytes(&buffer[..size]);
     io::write_all(STDOUT_FILENO, b"\n");

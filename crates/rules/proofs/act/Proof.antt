@@ -16,9 +16,6 @@ returns : tie.Need-returns
 unfolding actOnParts
 returns c = λ o. rw (c .if1 .taken)
 
-cast-if2 : tie.Need-cast-if2
-cast-if2 c = search needs
-
 returns-2 : tie.Need-returns-2
 unfolding actOnParts
 returns-2 c = λ o. rw (c .before .before .if1 .left, le-leb _ _ (c .if2 .taken))
@@ -55,7 +52,6 @@ act-spec =
     tie.close
     (tie.spec
     returns
-    cast-if2
     returns-2
     actor-in-range-requires
     returns-3

@@ -15,9 +15,6 @@ in-range-requires c κs = search needs
 returns : tie.Need-returns
 returns c = ap foundNumbers (read-refused _ _ _ (sym (c .before .in-range .ensures _ _) ∙ not-true _ (c .if1 .taken)))
 
-cast-if2 : tie.Need-cast-if2
-cast-if2 c = search needs
-
 returns-2 : tie.Need-returns-2
 returns-2 c =
     let tested = c .before in
@@ -39,4 +36,4 @@ returns-3 c =
     ap foundNumbers (c .first-row .ensures ∙ read-found _ _ (c .before .newest-of-groups .ensures) fine _ (keyed .if2 .left))
 
 pub read-spec : {M : Type 1} → statement M
-read-spec = tie.close (tie.spec in-range-requires returns cast-if2 returns-2 newest-of-groups-requires first-row-requires returns-3)
+read-spec = tie.close (tie.spec in-range-requires returns returns-2 newest-of-groups-requires first-row-requires returns-3)

@@ -9,14 +9,8 @@ use Rattle.rules.proofs.actions.start.Tie as tie
 key-of-requires : tie.Need-key-of-requires
 key-of-requires c κs = search needs
 
-cast-no-key : tie.Need-cast-no-key
-cast-no-key c = search needs
-
 group-of-requires : tie.Need-group-of-requires
 group-of-requires c κs = search needs
-
-cast-no-group : tie.Need-cast-no-group
-cast-no-group c = search needs
 
 puts-erased-requires : tie.Need-puts-erased-requires
 puts-erased-requires c κs = search needs
@@ -117,9 +111,7 @@ start-spec =
     tie.close
     (tie.spec
     key-of-requires
-    cast-no-key
     group-of-requires
-    cast-no-group
     puts-erased-requires
     returns
     returns-2

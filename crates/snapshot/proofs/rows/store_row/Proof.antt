@@ -17,9 +17,6 @@ row-pasted : (buffer : List ℕ) (at k v g : ℕ) → at + 3 ≤ length buffer
 unfolding numbers pasted
 row-pasted buffer at k v g h = simp towards-suc (sets-eq (k ∷ v ∷ g ∷ []) buffer at h ∙ simp (append-assoc, towards-suc))
 
-cast-buffer : tie.Need-cast-buffer
-cast-buffer c = search needs
-
 mul-buffer : tie.Need-mul-buffer
 mul-buffer c = search needs
 
@@ -37,9 +34,6 @@ mul-buffer-2 c = search needs
 
 slice-write-buffer-2 : tie.Need-slice-write-buffer-2
 slice-write-buffer-2 c = simp length-set (omega arith)
-
-cast-buffer-2 : tie.Need-cast-buffer-2
-cast-buffer-2 c = search needs
 
 add-buffer-2 : tie.Need-add-buffer-2
 add-buffer-2 c = search needs
@@ -64,14 +58,12 @@ pub store-row-spec : {M : Type 1} → statement M
 store-row-spec =
     tie.close
     (tie.spec
-    cast-buffer
     mul-buffer
     slice-write-buffer
     value-at-requires
     add-buffer
     mul-buffer-2
     slice-write-buffer-2
-    cast-buffer-2
     add-buffer-2
     mul-buffer-3
     slice-write-buffer-3
