@@ -12,7 +12,8 @@ Every log but the one that is too long is also run step by step against the
 papers' own claims: the scan lists what the history says, no key stands in the
 committed slices of two groups, the listing at a stable timestamp stays
 whatever steps follow (demand 3), the steps coded again give the log's bytes
-(demand 2), and no row has the erased word as its value (Q-3).
+(demand 2), no row has the erased word as its value (Q-3), and every index entry
+is that of a committed put or of a put in progress that made it (Q-4).
 """
 
 from __future__ import annotations
@@ -260,6 +261,33 @@ def lock_logs() -> Iterator[bytes]:
         yield encode([*held, *two[:5], *freed, *two[4:]])
 
 
+def withdrawn_logs() -> Iterator[bytes]:
+    """An index entry that an operation made is taken out again where it ends without
+    commit, and another group may have the key; an older entry stays (Q-4).
+    """
+
+    def given_up(writer: int) -> Step:
+        return Step(writer, Action.GIVE_UP)
+
+    made = operation_steps(0, Put(1, 10, 0))
+    other = operation_steps(1, Put(2, 20, 0))
+    proposing = operation_steps(2, Put(1, 11, 1))
+    remove = operation_steps(3, Remove(1))
+    yield encode([*made[:3], *other, *made[3:6], *proposing])  # 5
+    for taken in range(1, len(made)):
+        yield encode([*made[:taken], given_up(0), *proposing])
+        yield encode([*made, *proposing[:taken], given_up(2), *remove])
+    yield encode([*made, *proposing[:3], *remove, *proposing[3:6], *other])  # 5
+    # A remove, and a put, that looked up an entry which is then taken out.
+    for later in (remove, proposing):
+        for taken in range(2, 5):
+            waiting = [*made[:5], *later[:taken]]
+            yield encode([*waiting, given_up(0), *later[taken:], *other])
+            yield encode([*waiting, given_up(0), *later[taken:5], *other[:5]])
+        waiting = [*made[:5], *later[:4], given_up(0), *other[:5]]
+        yield encode([*waiting, later[4], *other[5:], *later[4:], *later])
+
+
 def refusal_logs() -> Iterator[bytes]:
     """The first refusal that applies is given: 10, 12, 13, 18, 14, 15, 16."""
     starts = [
@@ -422,6 +450,7 @@ def families() -> list[tuple[str, list[bytes]]]:
         ("document 01's example, empty log, one record, P5 to P10", list(trace_logs())),
         ("puts after removes", list(remove_logs())),
         ("the lock freed", list(lock_logs())),
+        ("index entries taken out again", list(withdrawn_logs())),
         ("refusals", list(refusal_logs())),
         ("puts of the erased word", list(erased_logs())),
         ("random walks by four, eight and sixteen writers", list(walk_logs(draw))),
@@ -443,7 +472,7 @@ def require(claim: bool, message: str) -> None:
 
 
 class Checked:
-    """A table and its history, held to demand 3 and Q-3 while steps are taken."""
+    """A table and its history, held to demand 3, Q-3 and Q-4 while steps are taken."""
 
     def __init__(self) -> None:
         self.table = Table()
@@ -460,6 +489,7 @@ class Checked:
             for timestamp in timestamps:
                 self.check_rows(timestamp)
             self.note_stable()
+            self.check_index()
         if answer == Answer.COMMITTED:
             self.check_groups()
 
@@ -476,6 +506,21 @@ class Checked:
         for timestamp in range(1, self.history.last_timestamp + 1):
             if timestamp not in self.stable and self.history.is_stable(timestamp):
                 self.stable[timestamp] = self.table.snapshot(timestamp)
+
+    def check_index(self) -> None:
+        """Every entry is bound by a committed put on its key, or by a put in progress
+        that made it, and a committed key has its group's.
+        """
+        committed = self.history.committed.values()
+        puts = [done.operation for done in committed] + [
+            operation
+            for writer, (_, operation) in self.history.open.items()
+            if self.table.writers[writer].made
+        ]
+        bound = {put.key for put in puts if isinstance(put, Put)}
+        require(self.table.index.keys() <= bound, "an entry bound by no operation")
+        for operation, group in committed:
+            require(self.table.index.get(operation.key) == group, "a committed entry")
 
     def check_groups(self) -> None:
         """No key stands in the committed slices of two groups."""

@@ -347,7 +347,7 @@ def traces() -> Iterator[str]:
         ("at phase 0", step(0, GIVE_UP)),
         ("at phases 1 to 4", sum(aborted[:4], [])),
         ("at phases 5 and 6", sum(aborted[4:], [])),
-        ("key 1 stays in group 1", whole(1, Put(1, 11, 2))),
+        ("key 1 is in no group", whole(1, Put(1, 11, 2))),
     )
     yield from story(
         "A remove, and a put after it", 1, 4,
@@ -382,6 +382,54 @@ def traces() -> Iterator[str]:
         ("number longer than needed", before[2] + b"\x02\x83\x00"),
         ("number too large", before[3] + b"\xff" * 9 + b"\x02"),
         ("no such kind", before[4] + b"\x04\x0a"),
+    )
+
+
+def entries() -> Iterator[str]:
+    """Q-4: the index entry of an operation that ends without commit."""
+    put = Put(1, 10, 0)
+    yield from story(
+        "A failed check gives the key back", 1, 3,
+        ("both have read", through(0, put, READ) + through(1, Put(2, 20, 0), READ)),
+        ("writer 1 commits", steps(1, WRITE, COMMIT)),
+        ("writer 0's check fails", steps(0, WRITE, CHECK)),
+        ("key 1 is put in group 1", whole(2, Put(1, 11, 1))),
+    )
+    again = Put(1, 11, 1)
+    yield from story(
+        "An entry that was there before", 5, 6,
+        ("key 1 is put in group 0", whole(0, put)),
+        ("writer 1 gives up at phase 5", through(1, again, INDEX) + step(1, GIVE_UP)),
+        ("at phase 6", through(1, again, CHECK) + step(1, GIVE_UP)),
+        (
+            "its check fails",
+            through(1, again, READ) + whole(0, Put(2, 20, 0)) + steps(1, WRITE, CHECK),
+        ),
+        ("key 1 is still in group 0", whole(2, Put(1, 12, 2))),
+    )
+    entered = ("writer 0 has entered key 1", through(0, put, INDEX))
+    given_up = ("writer 0 gives up", step(0, GIVE_UP))
+    yield from story(
+        "A remove whose key is no longer indexed", 1, 4,
+        entered,
+        (
+            "two wait for the lock",
+            through(1, Remove(1), INDEX) + through(2, Put(2, 20, 0), INDEX),
+        ),
+        given_up,
+        ("writer 2 takes the lock", step(2, INDEX)),
+        ("the remove waits", step(1, INDEX)),
+        ("writer 2 commits", steps(2, CHECK, COMMIT)),
+        ("the remove ends", step(1, INDEX)),
+        ("key 1 is put in group 5", whole(3, Put(1, 11, 5))),
+        ("writer 1 is ready", step(1, Remove(1))),
+    )
+    yield from story(
+        "A put keeps the group that it found", 1, 2,
+        entered,
+        ("writer 1 looks key 1 up", through(1, again, LOOK_UP)),
+        given_up,
+        ("writer 1 commits", steps(1, READ, COMMIT)),
     )
 
 
@@ -652,11 +700,42 @@ def hand_set() -> Iterator[str]:
         ("as it is", []),
         ("writer 0 reads", step(0, READ)),
         ("writer 0 commits", steps(0, WRITE, COMMIT)),
-        ("writer 1 indexes", step(1, INDEX)),
-        ("writer 1's check fails", step(1, CHECK)),
+        ("writer 1's key is not indexed", step(1, INDEX)),
         ("writer 3 commits", steps(3, WRITE, COMMIT)),
         ("key 9 is in no group", through(2, Put(9, 91, 3), READ)),
         (f"writer {WRITERS - 1} starts anew", whole(WRITERS - 1, Put(30, 70, 6))),
+    )
+
+    yield "== Writers that are said to have made an entry"
+    table = table_of(
+        9,
+        {5: completed(0)},
+        {
+            0: Writer(Phase.LOOK_UP, Put(1, 11, 0), 1, made=True),
+            1: Writer(Phase.LOOK_UP, Put(2, 21, 0), 2, made=True),
+            2: Writer(Phase.READ, Put(3, 31, 0), 3, 0, made=True),
+            3: Writer(Phase.INDEX, Put(4, 41, 4), 4, 4, made=True),
+            4: Writer(Phase.CHECK, Remove(5), 6, 0, made=True),
+            5: Writer(Phase.INDEX, Put(6, 61, 3), 7, 3, made=True),
+            6: Writer(Phase.COMMIT, Put(7, 71, 3), 8, 3, made=True),
+            7: Writer(Phase.READY, Put(8, 81, 3), 9, 3, made=True),
+        },
+        {(3, 8): {7: 71}},
+        index={1: 7, 2: 6, 3: 0, 4: 5, 5: 0, 6: 3, 7: 3, 8: 3},
+    )
+    anew = through(7, Put(8, 82, 1), LOOK_UP)
+    puts = [whole(WRITERS - 1, Put(key, 100 + key, 1)) for key in range(1, 9)]
+    yield from played(
+        table, 20, 20,
+        ("writer 0 gives up", step(0, GIVE_UP)),
+        ("writer 1 gives up at phase 4", steps(1, LOOK_UP, WRITE) + step(1, GIVE_UP)),
+        ("writer 2 is too late", step(2, READ)),
+        ("writer 3's key is another group's", step(3, INDEX)),
+        ("writer 4's check fails", step(4, CHECK)),
+        ("writer 5 finds its entry, and gives up", [Step(5, INDEX), Step(5, GIVE_UP)]),
+        ("writer 6 commits", step(6, COMMIT)),
+        ("writer 7 starts anew, and gives up", anew + step(7, GIVE_UP)),
+        ("keys 1 to 8 are put in group 1, or where they are", sum(puts, [])),
     )
 
 
@@ -670,7 +749,7 @@ def largest(last: int = MAX_TIMESTAMP) -> Table:
         {(group, MAX_TIMESTAMP): {KEYS - 1: MAX_NUMBER}},
         {key: group for key in range(KEYS)},
         WRITERS - 1,
-        [Writer(Phase.COMMIT, put, last, group, last) for _ in range(WRITERS)],
+        [Writer(Phase.COMMIT, put, last, group, last, True) for _ in range(WRITERS)],
     )
 
 
@@ -822,7 +901,7 @@ def searches() -> Iterator[str]:
 
 
 PROGRAMS = {
-    "stories": (examples, traces),
+    "stories": (examples, traces, entries),
     "calls": (calls,),
     "encoding": (encoding,),
     "reading": (reading,),

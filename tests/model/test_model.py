@@ -322,15 +322,10 @@ class Walk(TableTest):
         self.assert_last(1, whole(1, Put(1, 12, 5)))
         self.assert_rows(4, (1, 12, 3))
 
-    def test_an_ended_operation_keeps_the_index_entry(self) -> None:
-        self.take(*through(0, INDEX, Put(1, 10, 3)), Step(0, GIVE_UP))
-        self.assert_last(1, whole(1, Put(1, 11, 4)))
-        self.assert_rows(2, (1, 11, 3))
-
     def test_a_remove_of_an_indexed_key_without_a_row_commits(self) -> None:
-        self.take(*through(0, INDEX, Put(1, 10, 3)), Step(0, GIVE_UP))
+        self.take(*whole(0, Put(1, 10, 3)), *whole(0, Remove(1)))
         self.assert_last(1, whole(1, Remove(1)))
-        self.assert_rows(2)
+        self.assert_rows(3)
 
     def test_other_groups_do_not_conflict(self) -> None:
         self.take(*through(0, READ, Put(1, 10, 3)))
@@ -381,6 +376,79 @@ class Walk(TableTest):
                     self.table = Table()
                     self.take(*steps[:taken])
                     self.assertEqual(self.take(other) == [14], not fits)
+
+
+class IndexEntries(TableTest):
+    """Q-4: "A failed put must not keep the slot"."""
+
+    def test_the_entry_of_a_failed_check_is_taken_out(self) -> None:
+        self.take(*through(0, READ, Put(1, 10, 0)), *whole(1, Put(2, 20, 0)))
+        self.assert_last(5, between(0, WRITE, CHECK))
+        self.assertEqual(self.table.index, {2: 0})
+        self.assert_last(1, whole(2, Put(1, 11, 1)))
+        self.assert_rows(3, (1, 11, 1), (2, 20, 0))
+
+    def test_giving_up(self) -> None:
+        for last in (INDEX, CHECK):
+            with self.subTest(last=last):
+                self.table = Table()
+                self.take(*through(0, last, Put(1, 10, 0)))
+                self.assertEqual(self.table.index, {1: 0})
+                self.assertEqual(self.take(Step(0, GIVE_UP)), [6])
+                self.assertEqual(self.table.index, {})
+                self.assert_last(1, whole(1, Put(1, 11, 1)))
+                self.assert_rows(2, (1, 11, 1))
+
+    def test_a_commit_leaves_the_entry(self) -> None:
+        self.take(*whole(0, Put(1, 10, 0)))
+        self.assertEqual(self.table.index, {1: 0})
+
+    def test_an_older_entry_stays(self) -> None:
+        for last in (INDEX, CHECK):
+            with self.subTest(last=last):
+                self.table = Table()
+                self.take(*whole(0, Put(1, 10, 0)), *through(1, last, Put(1, 11, 1)))
+                self.assertEqual(self.take(Step(1, GIVE_UP)), [6])
+                self.assert_last(1, whole(2, Put(1, 12, 2)))
+                self.assert_rows(3, (1, 12, 0))
+
+    def test_a_remove_must_find_the_key_still_indexed(self) -> None:
+        self.take(*through(0, INDEX, Put(1, 10, 0)), *through(1, WRITE, Remove(1)))
+        self.take(*through(2, WRITE, Put(2, 20, 0)), Step(0, GIVE_UP))
+        self.take(*through(3, INDEX, Put(3, 30, 7)))
+        self.assertEqual(self.take(Step(1, INDEX), Step(3, GIVE_UP)), [16, 6])
+        self.assertEqual(self.take(Step(1, INDEX)), [2])
+        self.assertEqual(self.table.writers[1], Writer())
+        self.assertEqual(self.take(Step(2, INDEX)), [0])
+
+    def test_a_put_keeps_the_group_that_it_found(self) -> None:
+        self.take(*through(0, INDEX, Put(1, 10, 0)))
+        self.take(*through(1, LOOK_UP, Put(1, 11, 1)), Step(0, GIVE_UP))
+        self.assert_last(1, between(1, READ, COMMIT))
+        self.assert_rows(2, (1, 11, 0))
+
+    def test_only_the_flag_decides(self) -> None:
+        """In a table not reached from a fresh one an entry is taken out at any phase,
+        and whatever it names; a start and an index step set the flag anew.
+        """
+        for phase in range(Phase.LOOK_UP, Phase.COMMIT + 1):
+            for made in (False, True):
+                with self.subTest(phase=phase, made=made):
+                    self.table = Table(1, {1: REQUESTED}, {}, {1: 7, 2: 0})
+                    writer = Writer(phase, Remove(1), 1, made=made)
+                    self.table.writers[3] = writer
+                    self.assertEqual(self.take(Step(3, GIVE_UP)), [6])
+                    self.assertEqual(1 not in self.table.index, made)
+                    self.assertEqual(self.table.index[2], 0)
+        for phase, again in (
+            (Phase.READY, through(3, LOOK_UP, Put(1, 10, 7))),
+            (Phase.INDEX, [Step(3, INDEX)]),
+        ):
+            with self.subTest(phase=phase, again=again):
+                self.table = Table(1, {1: REQUESTED}, {}, {1: 7})
+                self.table.writers[3] = Writer(phase, Put(1, 10, 7), 1, 7, made=True)
+                self.take(*again, Step(3, GIVE_UP))
+                self.assertEqual(self.table.index, {1: 7})
 
 
 class ConflictSearch(unittest.TestCase):

@@ -21,7 +21,7 @@ use model::limits::LAST_PHASE;
 use model::limits::TIMESTAMPS;
 use model::limits::WRITERS;
 
-// Does a writer keep zeros, as a ready one does? Its value has no range and is not asked.
+// Does a writer keep zeros, as a ready one does? Its value and its flags have no range and are not asked.
 fn keeps_zeros(x: Writer) -> bool
     ensures { λ r. ⌜ r ≡ keepsZeros x ⌝ }
 {

@@ -1,8 +1,8 @@
 -- What holds of the outcome of every action (act-sound): it isn't answered 17, refused it changes nothing, and what is in range stays in range.
-use Prim.Native.Nat.{ℕ, suc, _+_, _-_, _<_, _≤_, zero-le}
+use Prim.Native.Nat.{ℕ, suc, _+_, _<_, _≤_, zero-le}
 use native.Mathlib.Nat.{le-refl, le-trans}
 use native.Mathlib.Omega.{arith}
-use mathlib.Core.Bool.{Bool, true}
+use mathlib.Core.Bool.{Bool}
 use mathlib.Core.List.{List}
 use mathlib.Core.Path.{_≡_, refl}
 use mathlib.Core.Logic.{_≢_}
@@ -10,12 +10,12 @@ use lib.ListN.{getD, set}
 use Rattle.model.specs.Limits.{writers, keys, groups, timestamps, lastPhase}
 use Rattle.model.specs.Answers.{taken, aborted, outOfRange}
 use Rattle.model.specs.State.{Shared, withLast, withLock, withIndex, withTimeline, withPresent, withValues, completed, ready}
-use Rattle.model.specs.Rules.{withInstant, keyOf, groupOf, begun, moved, Verdict, Outcome, outcome, closed, carried, act}
+use Rattle.model.specs.Rules.{withInstant, keyOf, groupOf, begun, moved, withMade, Verdict, Outcome, outcome, closed, carried, act}
 use Rattle.model.specs.declared.Writer.{Writer}
 use Rattle.model.specs.declared.Operation.{Operation}
 use Rattle.model.specs.declared.Operation.the-variants.{Put, Remove}
 use Rattle.model.specs.declared.Action.{Action}
-use Rattle.common.proofs.Cases.{cond-iff, by-test, set-ind}
+use Rattle.common.proofs.Cases.{cond-iff, set-ind}
 use Rattle.model.proofs.CompletedInstants.{newest-of}
 use Rattle.model.proofs.Outcomes.{Ruling, isRefused, isEnded, rules}
 use Rattle.model.proofs.Outcomes.{hasStarted, hasFound, hasProposed, hasRead, hasWritten, hasEntered, hasChecked, hasCommitted}
@@ -35,6 +35,10 @@ module _ {s : Shared} (f : SharedRanged s) where
 
   with-index : {i : List ℕ} → ((k : ℕ) → k < keys → getD i k 0 ≤ groups) → SharedRanged (withIndex s i)
   with-index h = search
+
+  -- every entry in range, after one of them is set
+  entered : (k e : ℕ) → e ≤ groups → (j : ℕ) → j < keys → getD (set (s .index) k e) j 0 ≤ groups
+  entered k e h = set-ind (λ j v. j < keys → v ≤ groups) (s .index) k e 0 (λ _. h) (f .entry)
 
   with-rows : {p : List Bool} {v : List ℕ} → SharedRanged (withValues (withPresent s p) v)
   with-rows = search
@@ -69,21 +73,25 @@ module _ (x : Writer) (w : ℕ) (s : Shared) where
   accepts : {o : Outcome} → o .answer ≤ aborted → (w < writers → SharedRanged s → WriterRanged (s .last) x → OutcomeRanged (s .last) o) → Sound o
   accepts h k = record { answer = omega arith; refused = λ a. absurd (omega arith); kept = k }
 
-  -- the writer is ready again, and the lock free if it held it
-  closes : {n : ℕ} {t : Shared} → n ≤ aborted → t .last ≡ s .last → (SharedRanged s → WriterRanged (s .last) x → SharedRanged t) → Sound (closed n w t)
+  -- the writer is ready again, the lock free if it held it, and the entry taken out that it made, unless it has committed
+  closes : {n : ℕ} {t : Shared} → n ≤ aborted → t .last ≡ s .last → (SharedRanged s → WriterRanged (s .last) x → SharedRanged t) → Sound (closed n x w t)
   closes h e k =
       accepts h
       (λ _ f g.
       record {
-        shared = with-lock (k f g) (simp (cond-iff (λ m. m ≤ writers)) (λ _. zero-le, λ _. k f g .lock));
+        shared =
+            with-lock
+            (with-index (k f g)
+            (simp (cond-iff (λ (i : List ℕ). (j : ℕ) → j < keys → getD i j 0 ≤ groups)) (λ _. entered (k f g) _ _ zero-le, λ _. k f g .entry)))
+            (simp (cond-iff (λ m. m ≤ writers)) (λ _. zero-le, λ _. k f g .lock));
         writer = ready-ranged _;
         grows = omega arith;
       })
 
-  -- the writer goes on to phase p, with file group h and base b
-  moves : {n p h b : ℕ} {t : Shared} → t .last ≡ s .last → x .phase ≡ suc n → p ≤ lastPhase
+  -- the writer goes on to phase p, with file group h and base b, having made its entry or not
+  moves : {n p h b : ℕ} {m : Bool} {t : Shared} → t .last ≡ s .last → x .phase ≡ suc n → p ≤ lastPhase
       → (w < writers → SharedRanged s → WriterRanged (s .last) x → (h < groups) × (b ≤ s .last) × SharedRanged t)
-      → Sound (outcome taken (moved x p h b) t)
+      → Sound (outcome taken (moved (withMade x m) p h b) t)
   moves e at i k =
       accepts (omega arith)
       (λ v f g.
@@ -115,12 +123,8 @@ module _ (x : Writer) (w : ℕ) (s : Shared) where
   ruling-sound (hasRead p le) =
       moves refl p (omega arith) (λ _ f g. (g .group, newest-of (s .timeline) (x .group) (s .last) .below, own-instant p f g (omega arith)))
   ruling-sound (hasWritten p) = moves refl p (omega arith) (λ _ f g. (g .group, g .base, with-rows f))
-  ruling-sound (hasEntered i p e) =
-      moves refl p (omega arith)
-      (λ v f g.
-      let put : x .put ≡ true → (k : ℕ) → k < keys → getD i k 0 ≤ groups
-      = λ put. rw (e .put put) (set-ind (λ k v. k < keys → v ≤ groups) (s .index) (x .key) _ 0 (λ _. omega (arith, g .group)) (f .entry)) in
-      (g .group, g .base, with-lock (with-index f (by-test (x .put) put (λ remove. rw (e .remove remove) (f .entry)))) (omega arith)))
+  ruling-sound (hasEntered made p e) =
+      moves refl p (omega arith) (λ v f g. (g .group, g .base, with-lock (with-index f (entered f _ _ (omega (arith, g .group)))) (omega arith)))
   ruling-sound (hasChecked p le) = moves refl p (omega arith) same
   ruling-sound (hasCommitted i p done) = closes (omega arith) refl (λ f g. own-instant p f g (omega arith))
 

@@ -1,19 +1,24 @@
 -- A commit keeps the invariant: `commit-keeps`. Its base is the newest of its group before it, since no commit of the group came after its check.
-use Prim.Native.Nat.{ℕ, _≤_}
+use Prim.Native.Nat.{ℕ, _≤_, _<_}
 use mathlib.Core.Path.{_≡_, refl, sym, subst, subst⁻¹, ap, _∙_}
+use mathlib.Core.Logic.{_≢_}
+use mathlib.Core.List.{List·Memᴰ·head, List·Memᴰ·tail}
 use mathlib.Core.Option.{Option, none, some, map-eq-none-iff}
 use native.Mathlib.Omega.{arith}
 use Rattle.common.specs.Counting.{upd}
 use Rattle.model.specs.State.{ready}
+use Rattle.model.specs.Rules.{keyOf}
 use Rattle.model.specs.History.{Pending, Committed, commitRecorded}
+use Rattle.model.specs.Binding.{byCommitted}
 use Rattle.model.specs.declared.Writer.{Writer}
 use Rattle.common.proofs.Functions.{none-some, some-inj, upd-same, upd-other, upd-ind}
 use Rattle.model.proofs.Newest.{newest-kept}
 use Rattle.model.proofs.CommittedAt.{committedAt, groupIn}
 use Rattle.model.proofs.Moves.{View, leaves, afterCommit}
-use Rattle.model.proofs.Invariant.{InProgress, Based, CommittedFacts, Invariant, committed-completed}
+use Rattle.model.proofs.Invariant.{InProgress, Based, CommittedFacts, Invariant, one-past, pending-key}
 use Rattle.model.proofs.Kept.{SharedKept, Moved, Kept, committed-facts, writer-facts, timestamps-unique}
 use Rattle.model.proofs.OwnFacts.{ready-facts, released-other, released-own}
+use Rattle.model.proofs.Binding.{still-bound}
 
 module _ (v : View) (w : ℕ) (i : Invariant v) where
   module _ (p : Pending) (at : v .writer w .phase ≡ 6) (is : v .history .pending w ≡ some p) where
@@ -32,6 +37,9 @@ module _ (v : View) (w : ℕ) (i : Invariant v) where
     at-ts : p .ts ≡ x .ts
     at-ts = ap (λ (q : Pending). q .ts) (sym same) ∙ inProgress .ts
 
+    at-key : keyOf (p .operation) ≡ x .key
+    at-key = pending-key v i w p (omega arith) is
+
     based : Based (v .completed) (x .group) (x .base) (x .ts)
     based = i .writer w .based (omega arith)
 
@@ -47,7 +55,7 @@ module _ (v : View) (w : ℕ) (i : Invariant v) where
               λ s g b e.
               newest-kept (inProgress .uncompleted) (x .group)
               (λ q le. absurd (omega (arith, latest s (e ∙ ap {B = Option ℕ} some (sym q)), based .before, inProgress .positive)));
-          entry = λ k g e. e;
+          entry = λ s c e. refl;
           cell = λ s g e. refl;
           stored = λ s g e. refl;
         }
@@ -60,10 +68,18 @@ module _ (v : View) (w : ℕ) (i : Invariant v) where
           newest =
               newest-kept (inProgress .uncompleted) (x .group) (λ q le. absurd (omega (arith, inProgress .positive)))
               (record { below = omega (arith, based .before); hit = based .hit; most = λ s le. latest s });
-          rows = λ k. rw (← same, inProgress .key, inProgress .left) (i .writer w .written (omega arith) k);
+          rows = λ k. rw (at-key, ← same, inProgress .left) (i .writer w .written (omega arith) k);
           stored = i .writer w .stored (omega arith);
-          indexed = rw (← same, inProgress .key) (i .writer w .indexed (omega arith));
+          indexed = rw at-key (i .writer w .indexed (omega arith));
         }
+
+    -- what is committed
+    abbrev c : Committed
+    c = record { operation = p .operation; ts = p .ts; group = x .group }
+
+    -- another writer is not past the index step
+    not-past : (u : ℕ) → u ≢ w → ¬ (4 < v .writer u .phase)
+    not-past u ne past = ne (one-past v i u w past (omega arith))
 
     commit-moves : Moved v n w ready
     unfolding commitRecorded
@@ -78,11 +94,17 @@ module _ (v : View) (w : ℕ) (i : Invariant v) where
                 uncompleted = λ q. upd-other (v .completed) (x .ts) (some (x .group)) (v .writer u .ts) (λ e. ne (i .unique u w q (omega arith) e));
                 cell = λ q. refl;
                 stored = λ q. refl;
+                entry = λ q. refl;
+                made = λ m. absurd (not-past u ne (m .past));
                 locks = released-other (v .lock) w u ne .0;
                 holds = released-other (v .lock) w u ne .1;
-                latest = λ q. absurd (omega (arith, i .writer w .locks (omega arith), i .writer u .locks (omega arith)));
+                latest = λ q. absurd (not-past u ne (omega arith));
               };
           own = ready-facts n w (upd-same (v .history .pending) w none) (released-own (v .lock) w);
+          bound =
+              λ k there.
+              still-bound v (n .history) w ready (upd-other (v .history .pending) w none) (λ d m. List·Memᴰ·tail m)
+              (λ q same puts _. byCommitted c (List·Memᴰ·head refl) (rw (some-inj is same) puts)) (i .bound k there);
           unique = λ u ne q r. absurd (omega arith);
         }
 
@@ -90,7 +112,6 @@ module _ (v : View) (w : ℕ) (i : Invariant v) where
     unfolding commitRecorded committedAt
     commit-keeps =
         let f = committedAt (v .history .done) in
-        let c : Committed = record { operation = p .operation; ts = p .ts; group = x .group } in
         let free : f (x .ts) ≡ none = map-eq-none-iff _ (f (x .ts)) .0 (sym (i .linked (x .ts)) ∙ inProgress .uncompleted) in
         record {
           shared = commit-shared;
@@ -111,8 +132,9 @@ module _ (v : View) (w : ℕ) (i : Invariant v) where
                     (λ q.
                     subst (λ (d : Committed). CommittedFacts n (p .ts) (d .group) (d .operation)) (some-inj {o = some c} refl q)
                     (subst⁻¹ (λ (s : ℕ). CommittedFacts n s (x .group) (p .operation)) at-ts new-facts))
-                    (λ s ne q. committed-facts v n commit-shared s (d .group) (d .operation) (committed-completed v i s d q) (i .committed s d q))
+                    (λ s ne q. committed-facts v n commit-shared i s d q)
                     s e;
+                bound = commit-moves .bound;
                 writer = writer-facts v n w ready i commit-moves;
                 unique = timestamps-unique v n w ready i commit-moves;
               };

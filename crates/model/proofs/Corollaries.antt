@@ -3,6 +3,7 @@
 --     lock-excludes      while a writer holds the lock, no other writer's step changes the rows at any timestamp, and so no scan
 --     abort-frees        an abort by the lock's holder frees the lock
 --     point-read-listed  a point read gives the key's row of the history's listing, or absent
+--     bound              an indexed key has a committed put, or a put in progress that made the entry: no operation that ended binds a key
 --     slice-stays        what a committed operation's write step stored stays the same, whatever steps follow
 --     slice-in-table     and the table has it at the operation's file group and timestamp
 use Prim.Native.Nat.{ℕ, _+_, _<_}
@@ -17,10 +18,11 @@ use borrow.Author.Tests.{eq-eqb, ne-eqb, lt-leb}
 use Rattle.model.specs.Limits.{writers, keys}
 use Rattle.common.specs.Counting.{listBelow}
 use Rattle.model.specs.State.{cell}
-use Rattle.model.specs.Rules.{abort, ruled, act, writerOf, stepTested, step}
+use Rattle.model.specs.Rules.{entryOf, abort, ruled, act, writerOf, stepTested, step}
 use Rattle.model.specs.Snapshot.{rowsAt, firstOf, pointRead}
 use Rattle.model.specs.History.{Pending, Committed, startRecorded, endRecorded, newestOn, rowOfNewest, listing}
 use Rattle.model.specs.Isolation.{Execution, next, beginning, after, committedSlice}
+use Rattle.model.specs.Binding.{Bound}
 use Rattle.model.specs.declared.Writer.{Writer}
 use Rattle.model.specs.declared.Action.the-variants.{Abort}
 use Rattle.model.specs.declared.Step.{Step}
@@ -88,6 +90,9 @@ pub point-read-listed : (ss : List Step) (t k : ℕ) → k < keys
     → pointRead (after ss .state) t k ≡ firstOf (rowOfNewest (newestOn (after ss .history .done) k t))
 unfolding pointRead
 point-read-listed ss t k small = rw (reached ss .ranged, lt-leb keys k small, rows-of (after ss) (reached ss) t k small)
+
+pub bound : (ss : List Step) (k : ℕ) → entryOf (after ss .state .shared) k ≢ 0 → Bound (after ss .history) (writerOf (after ss .state)) k
+bound ss = reached ss .invariant .bound
 
 -- what is completed in n as in v: it stays so, and what its write step stored stays
 record SliceKept (s g : ℕ) (v n : View) : Type 0 where

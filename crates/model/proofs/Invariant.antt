@@ -2,11 +2,16 @@
 -- A writer's facts grow with its phase. The slice of a committed operation is the newest one of its group before it, changed at one key.
 use Prim.Native.Nat.{ℕ, pred, _+_, _≤_, _<_}
 use mathlib.Core.Path.{_≡_, ap, _∙_}
-use mathlib.Core.Bool.{false}
+use mathlib.Core.Logic.{_≢_}
+use mathlib.Core.List.{List}
+use mathlib.Core.Bool.{true}
 use mathlib.Core.Option.{Option, none, some}
+use native.Mathlib.Omega.{arith}
 use Rattle.common.specs.Counting.{upd}
+use Rattle.common.proofs.Functions.{some-inj}
 use Rattle.model.specs.Rules.{keyOf}
 use Rattle.model.specs.History.{Pending, Committed}
+use Rattle.model.specs.Binding.{Bound}
 use Rattle.model.specs.declared.Writer.{Writer}
 use Rattle.model.specs.declared.Operation.{Operation}
 use Rattle.model.proofs.Newest.{Newest}
@@ -30,15 +35,21 @@ pub record Based (completed : ℕ → Option ℕ) (g b n : ℕ) : Type 0 where
   pub before : b < n
   pub hit : 0 < b → completed b ≡ some g
 
+-- a writer that made its key's index entry: it puts, it is past the index step, and nothing is committed on the key
+pub record Made (done : List Committed) (x : Writer) : Type 0 where
+  pub put : x .put ≡ true
+  pub past : 4 < x .phase
+  pub new : (s : ℕ) (c : Committed) → committedAt done s ≡ some c → keyOf (c .operation) ≢ x .key
+
 -- what holds of writer w, whose record is x, by its phase
 pub record WriterFacts (v : View) (w : ℕ) (x : Writer) : Type 0 where
   pub ready : x .phase ≡ 0 → v .history .pending w ≡ none
   pub inProgress : 0 < x .phase → InProgress (v .history .pending w) (v .last) (v .completed (x .ts)) (x .key) (leaves x) (x .ts)
-  pub removes : 1 < x .phase → x .put ≡ false → v .entry (x .key) ≡ x .group + 1
   pub based : 2 < x .phase → Based (v .completed) (x .group) (x .base) (x .ts)
   pub written : 3 < x .phase → (k : ℕ) → v .cell (x .group) (x .ts) k ≡ rowsStored (v .cell) x k
   pub stored : 3 < x .phase → v .stored (x .ts) ≡ v .cell (x .group) (x .ts)
   pub indexed : 4 < x .phase → v .entry (x .key) ≡ x .group + 1
+  pub made : x .made ≡ true → Made (v .history .done) x
   pub locks : 4 < x .phase → v .lock ≡ w + 1
   pub holds : v .lock ≡ w + 1 → 4 < x .phase
   pub latest : 5 < x .phase → (s : ℕ) → v .completed s ≡ some (x .group) → s ≤ x .base
@@ -58,8 +69,20 @@ pub record Invariant (v : View) : Type 0 where
   pub above : (s : ℕ) → v .last < s → v .completed s ≡ none
   pub empty : (g k : ℕ) → v .cell g 0 k ≡ none
   pub committed : (s : ℕ) (c : Committed) → committedAt (v .history .done) s ≡ some c → CommittedFacts v s (c .group) (c .operation)
+  pub bound : (k : ℕ) → v .entry k ≢ 0 → Bound (v .history) (v .writer) k
   pub writer : (w : ℕ) → WriterFacts v w (v .writer w)
   pub unique : (a b : ℕ) → 0 < v .writer a .phase → 0 < v .writer b .phase → v .writer a .ts ≡ v .writer b .ts → a ≡ b
+
+-- two writers past the index step are one: each has the lock
+pub one-past : (v : View) → Invariant v → (a b : ℕ) → 4 < v .writer a .phase → 4 < v .writer b .phase → a ≡ b
+one-past v i a b p q = omega (arith, i .writer a .locks p, i .writer b .locks q)
+
+-- a writer's operation in progress is on its key
+pub pending-key : (v : View) → Invariant v → (w : ℕ) (p : Pending) → 0 < v .writer w .phase → v .history .pending w ≡ some p
+    → keyOf (p .operation) ≡ v .writer w .key
+pending-key v i w p busy is =
+    let h = i .writer w .inProgress busy in
+    ap (λ (q : Pending). keyOf (q .operation)) (some-inj is (h .is)) ∙ h .key
 
 pub committed-completed : (v : View) → Invariant v → (s : ℕ) (c : Committed) → committedAt (v .history .done) s ≡ some c
     → v .completed s ≡ some (c .group)

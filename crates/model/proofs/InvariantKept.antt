@@ -1,17 +1,21 @@
--- Every move keeps the invariant, and what is completed, indexed and stored in completed slices: `move-keeps`.
+-- Every move keeps the invariant, what is completed and stored in completed slices, and the index entries of committed keys: `move-keeps`.
 use Prim.Native.Nat.{ℕ, _+_}
-use mathlib.Core.Path.{_≡_, refl, subst⁻¹}
+use mathlib.Core.Path.{_≡_, refl, sym, subst⁻¹, _∙_}
+use mathlib.Core.Logic.{_≢_}
+use mathlib.Core.Bool.{true, false≢true}
 use mathlib.Core.Option.{none, some}
 use native.Mathlib.Omega.{arith}
 use Rattle.model.specs.State.{ready}
-use Rattle.model.specs.Rules.{begun}
+use Rattle.model.specs.Rules.{keyOf, begun}
 use Rattle.model.specs.History.{Pending, startRecorded, endRecorded}
 use Rattle.model.specs.declared.Operation.{Operation}
-use Rattle.common.proofs.Functions.{upd-same, upd-other}
+use Rattle.common.proofs.Cases.{cond-iff}
+use Rattle.common.proofs.Functions.{upd-same, upd-other, upd-ind}
 use Rattle.model.proofs.Moves.{View, afterStart, afterEnd, Move, stays, starts, continues, ends, commits}
-use Rattle.model.proofs.Invariant.{Invariant}
+use Rattle.model.proofs.Invariant.{Invariant, one-past, pending-key}
 use Rattle.model.proofs.Kept.{Kept, unchanged, uncommitted}
 use Rattle.model.proofs.OwnFacts.{unwritten, ready-facts, begun-fields, released-other, released-own}
+use Rattle.model.proofs.Binding.{puts-key, still-bound}
 use Rattle.model.proofs.PhaseKept.{phase-keeps}
 use Rattle.model.proofs.CommitKept.{commit-keeps}
 
@@ -35,6 +39,8 @@ module _ (v : View) (w : ℕ) (i : Invariant v) where
               uncompleted = λ q. refl;
               cell = λ q. refl;
               stored = λ q. refl;
+              entry = λ q. refl;
+              made = λ m. m;
               locks = λ e. e;
               holds = λ e. e;
               latest = λ q s e. e;
@@ -52,30 +58,72 @@ module _ (v : View) (w : ℕ) (i : Invariant v) where
               issued = omega arith;
               uncompleted = i .above (x .ts) (omega arith);
             })
-            (λ q. absurd (omega arith)) (λ q. absurd (omega arith)) (λ q. omega (arith, i .writer w .holds q));
+            (λ q. absurd (omega arith)) (λ m. false≢true (sym (b .4) ∙ m)) (λ q. omega (arith, i .writer w .holds q));
+        bound =
+            λ k there.
+            still-bound v (n .history) w x (upd-other (v .history .pending) w (some p)) (λ c m. m)
+            (λ _ _ _ m. absurd (omega (arith, i .writer w .made m .past))) (i .bound k there);
         unique = λ u ne q r e. omega (arith, i .writer u .inProgress q .issued);
       })
       (omega arith) refl refl
 
+  -- the entry of key k is not one that the writer made
+  abbrev NotOwn : ℕ → Type 0
+  NotOwn k = v .writer w .made ≡ true → k ≢ v .writer w .key
+
+  -- such an entry stays where the writer's operation ends
+  entry-stays : (k : ℕ) → NotOwn k → afterEnd v w .entry k ≡ v .entry k
+  entry-stays k other =
+      simp (cond-iff (λ (e : ℕ → ℕ). e k ≡ v .entry k)) (λ made. upd-other (v .entry) (v .writer w .key) 0 k (other made), λ _. refl)
+
+  -- and no other
+  entry-left : (k : ℕ) → afterEnd v w .entry k ≢ 0 → (v .entry k ≢ 0) × NotOwn k
+  entry-left k =
+      simp (cond-iff (λ (e : ℕ → ℕ). e k ≢ 0 → (v .entry k ≢ 0) × NotOwn k)) (
+        λ _.
+            upd-ind (v .entry) (v .writer w .key) 0 (λ k e. e ≢ 0 → (v .entry k ≢ 0) × NotOwn k) (λ gone. absurd (gone refl))
+            (λ k ne there. (there, λ _. ne)) k,
+        λ unmade there. (there, λ made. absurd (false≢true (sym unmade ∙ made))),
+      )
+
   end-keeps : Kept v (afterEnd v w)
   unfolding endRecorded
   end-keeps =
-      uncommitted v (afterEnd v w) w ready i
+      let n = afterEnd v w in
+      let pending = upd-other (v .history .pending) w none in
+      uncommitted v n w ready i
       (record {
         writer = refl;
-        shared = unchanged v (afterEnd v w) (omega arith) refl refl refl refl;
+        shared =
+            record {
+              last = omega arith;
+              completed = λ s g e. e;
+              newest = λ s g b e h. h;
+              entry = λ s c is. entry-stays (keyOf (c .operation)) (λ made. i .writer w .made made .new s c is);
+              cell = λ s g e. refl;
+              stored = λ s g e. refl;
+            };
         others =
             λ u ne.
             record {
-              pending = upd-other (v .history .pending) w none u ne;
+              pending = pending u ne;
               uncompleted = λ q. refl;
               cell = λ q. refl;
               stored = λ q. refl;
+              entry = λ q. entry-stays (v .writer u .key) (λ made e. ne (one-past v i u w q (i .writer w .made made .past)));
+              made = λ m. m;
               locks = released-other (v .lock) w u ne .0;
               holds = released-other (v .lock) w u ne .1;
               latest = λ q s e. e;
             };
-        own = ready-facts (afterEnd v w) w (upd-same (v .history .pending) w none) (released-own (v .lock) w);
+        own = ready-facts n w (upd-same (v .history .pending) w none) (released-own (v .lock) w);
+        bound =
+            λ k there.
+            let (old, other) = entry-left k there in
+            still-bound v (n .history) w ready pending (λ c m. m)
+            (λ p is puts made.
+            absurd (other made (sym (puts-key (p .operation) puts) ∙ pending-key v i w p (omega (arith, i .writer w .made made .past)) is)))
+            (i .bound k old);
         unique = λ u ne q r. absurd (omega arith);
       })
       (i .last) refl refl

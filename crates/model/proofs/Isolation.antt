@@ -49,6 +49,7 @@ fresh-consistent =
             above = λ s p. fresh-completed s;
             empty = cell-zero _ _;
             committed = λ s c e. absurd (none-some refl e);
+            bound = λ k there. absurd (there (getD-fresh keys k 0));
             writer = λ w. rw (getD-fresh writers w ready) (ready-facts (viewOf beginning) w refl (λ e. omega arith));
             unique = λ a b p q e. absurd (omega (arith, ap (λ (x : Writer). x .phase) (fresh-writer a)));
           };

@@ -7,20 +7,22 @@ use mathlib.Core.Logic.{_≢_}
 use mathlib.Core.Option.{Option, some}
 use native.Mathlib.Omega.{arith}
 use Rattle.common.specs.Counting.{upd}
+use Rattle.model.specs.Rules.{keyOf}
+use Rattle.model.specs.History.{Committed}
+use Rattle.model.specs.Binding.{Bound}
 use Rattle.model.specs.declared.Writer.{Writer}
-use Rattle.model.specs.declared.Operation.{Operation}
 use Rattle.common.proofs.Functions.{upd-ind}
 use Rattle.model.proofs.Newest.{Newest}
 use Rattle.model.proofs.CommittedAt.{committedAt}
 use Rattle.model.proofs.Moves.{View}
-use Rattle.model.proofs.Invariant.{WriterFacts, CommittedFacts, Invariant, committed-completed}
+use Rattle.model.proofs.Invariant.{Made, WriterFacts, CommittedFacts, Invariant, committed-completed}
 
 -- what a move keeps of the part that all writers share
 pub record SharedKept (v n : View) : Type 0 where
   pub last : v .last ≤ n .last
   pub completed : (s g : ℕ) → v .completed s ≡ some g → n .completed s ≡ some g
   pub newest : (s g b : ℕ) → v .completed s ≡ some g → Newest (v .completed) g (pred s) b → Newest (n .completed) g (pred s) b
-  pub entry : (k g : ℕ) → v .entry k ≡ g + 1 → n .entry k ≡ g + 1
+  pub entry : (s : ℕ) (c : Committed) → committedAt (v .history .done) s ≡ some c → n .entry (keyOf (c .operation)) ≡ v .entry (keyOf (c .operation))
   pub cell : (s g : ℕ) → (0 < s → v .completed s ≡ some g) → n .cell g s ≡ v .cell g s
   pub stored : (s g : ℕ) → v .completed s ≡ some g → n .stored s ≡ v .stored s
 
@@ -30,6 +32,8 @@ pub record OtherKept (v n : View) (u : ℕ) (x : Writer) : Type 0 where
   pub uncompleted : 0 < x .phase → n .completed (x .ts) ≡ v .completed (x .ts)
   pub cell : 0 < x .phase → n .cell (x .group) (x .ts) ≡ v .cell (x .group) (x .ts)
   pub stored : 0 < x .phase → n .stored (x .ts) ≡ v .stored (x .ts)
+  pub entry : 4 < x .phase → n .entry (x .key) ≡ v .entry (x .key)
+  pub made : Made (v .history .done) x → Made (n .history .done) x
   pub locks : v .lock ≡ u + 1 → n .lock ≡ u + 1
   pub holds : n .lock ≡ u + 1 → v .lock ≡ u + 1
   pub latest : 5 < x .phase → (s : ℕ) → n .completed s ≡ some (x .group) → v .completed s ≡ some (x .group)
@@ -40,6 +44,7 @@ pub record Moved (v n : View) (w : ℕ) (x : Writer) : Type 0 where
   pub shared : SharedKept v n
   pub others : (u : ℕ) → u ≢ w → OtherKept v n u (v .writer u)
   pub own : WriterFacts n w x
+  pub bound : (k : ℕ) → n .entry k ≢ 0 → Bound (n .history) (n .writer) k
   pub unique : (u : ℕ) → u ≢ w → 0 < v .writer u .phase → 0 < x .phase → v .writer u .ts ≢ x .ts
 
 -- so it keeps the whole
@@ -54,7 +59,7 @@ unchanged v n last completed entry cell stored =
       last = last;
       completed = λ s g e. rw completed e;
       newest = λ s g b e h. rw completed h;
-      entry = λ k g e. rw entry e;
+      entry = λ s c e. rw entry;
       cell = λ s g e. rw cell;
       stored = λ s g e. rw stored;
     }
@@ -77,24 +82,28 @@ module _ (v n : View) (k : SharedKept v n) where
               issued = omega (arith, k .last, h .issued);
               uncompleted = o .uncompleted p ∙ h .uncompleted;
             };
-        removes = λ p e. k .entry _ _ (f .removes p e);
         based = λ p. record { before = f .based p .before; hit = λ q. k .completed _ _ (f .based p .hit q) };
         written = λ p i. rw (o .cell (omega arith), k .cell (x .base) (x .group) (f .based (omega arith) .hit)) (f .written p i);
         stored = λ p. o .stored (omega arith) ∙ f .stored p ∙ sym (o .cell (omega arith));
-        indexed = λ p. k .entry _ _ (f .indexed p);
+        indexed = λ p. o .entry p ∙ f .indexed p;
+        made = λ e. o .made (f .made e);
         locks = λ p. o .locks (f .locks p);
         holds = λ e. f .holds (o .holds e);
         latest = λ p s e. f .latest p s (o .latest p s e);
       }
 
-  pub committed-facts : (s g : ℕ) (op : Operation) → v .completed s ≡ some g → CommittedFacts v s g op → CommittedFacts n s g op
-  committed-facts s g op e f =
+  pub committed-facts : Invariant v → (s : ℕ) (c : Committed) → committedAt (v .history .done) s ≡ some c
+      → CommittedFacts n s (c .group) (c .operation)
+  committed-facts i s c is =
+      let g = c .group in
+      let e = committed-completed v i s c is in
+      let f = i .committed s c is in
       record {
         base = f .base;
         newest = k .newest s g (f .base) e (f .newest);
         rows = λ i. rw (k .cell s g (λ p. e), k .cell (f .base) g (f .newest .hit)) (f .rows i);
         stored = k .stored s g e ∙ f .stored ∙ sym (k .cell s g (λ p. e));
-        indexed = k .entry _ _ (f .indexed);
+        indexed = k .entry s c is ∙ f .indexed;
       }
 
 module _ (v n : View) (w : ℕ) (x : Writer) (i : Invariant v) (m : Moved v n w x) where
@@ -125,9 +134,8 @@ module _ (v n : View) (w : ℕ) (x : Writer) (i : Invariant v) (m : Moved v n w 
               above = λ s p. rw completed (i .above s (omega (arith, m .shared .last)));
               empty = λ g k. ap (λ (c : ℕ → Option ℕ). c k) (m .shared .cell 0 g (λ p. absurd (omega arith))) ∙ i .empty g k;
               committed =
-                  λ s c e.
-                  let old : committedAt (v .history .done) s ≡ some c = rw done at e in
-                  committed-facts v n (m .shared) s (c .group) (c .operation) (committed-completed v i s c old) (i .committed s c old);
+                  λ s c e. committed-facts v n (m .shared) i s c (rw done at e);
+              bound = m .bound;
               writer = writer-facts;
               unique = timestamps-unique;
             };

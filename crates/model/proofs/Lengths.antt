@@ -1,16 +1,17 @@
 -- The lists of a state have their lengths: `fresh-lengths`, and `step-lengths`, a step keeps them.
 use Prim.Native.Nat.{ℕ}
-use mathlib.Core.Path.{_≡_, ap, _∙_}
+use mathlib.Core.Path.{_≡_, _∙_}
 use mathlib.Core.List.{List}
 use mathlib.Core.Bool.{Bool, false}
 use lib.ListN.{length, getD, set, length-set, length-replicate}
 use Rattle.model.specs.Limits.{writers, keys, timestamps, rows}
 use Rattle.model.specs.State.{Shared, State, withLast, withLock, withIndex, withTimeline, withPresent, withValues, ready, fresh}
-use Rattle.model.specs.Rules.{Verdict, carried, act, Answered, stepTested, step}
+use Rattle.model.specs.Answers.{committed}
+use Rattle.model.specs.Rules.{Verdict, closed, carried, act, Answered, stepTested, step}
 use Rattle.model.specs.declared.Writer.{Writer}
 use Rattle.model.specs.declared.Action.{Action}
 use Rattle.model.specs.declared.Step.{Step}
-use Rattle.common.proofs.Cases.{cond-iff, by-test}
+use Rattle.common.proofs.Cases.{cond-iff}
 use Rattle.model.proofs.Outcomes.{Ruling, isRefused, isEnded, rules}
 use Rattle.model.proofs.Outcomes.{hasStarted, hasFound, hasProposed, hasRead, hasWritten, hasEntered, hasChecked, hasCommitted}
 use Rattle.model.proofs.Slices.{sliced-length}
@@ -33,6 +34,10 @@ module _ {s : Shared} (h : SharedLengths s) where
   with-index : {l : List ℕ} → length l ≡ keys → SharedLengths (withIndex s l)
   with-index e = search
 
+  -- one entry set
+  entered : (k e : ℕ) → length (set (s .index) k e) ≡ keys
+  entered k e = length-set (s .index) k e ∙ h .index
+
   with-times : {m : ℕ} {l : List ℕ} → length l ≡ timestamps → SharedLengths (withTimeline (withLast s m) l)
   with-times e = search
 
@@ -42,21 +47,21 @@ module _ {s : Shared} (h : SharedLengths s) where
   with-instant : {m : ℕ} (i y : ℕ) → SharedLengths (withTimeline (withLast s m) (set (s .timeline) i y))
   with-instant i y = with-times (length-set (s .timeline) i y ∙ h .timeline)
 
+closed-lengths : (n : ℕ) (x : Writer) (w : ℕ) {s : Shared} → SharedLengths s → SharedLengths (closed n x w s .shared)
+closed-lengths n x w h = with-lock (with-index h (simp (cond-iff (λ (i : List ℕ). length i ≡ keys)) (λ _. entered h _ _, λ _. h .index)))
+
 ruling-lengths : (x : Writer) (w : ℕ) (s : Shared) {a : Action} {v : Verdict} → Ruling x w s a v → SharedLengths s → SharedLengths (carried x w s v .shared)
 ruling-lengths x w s (isRefused a n p) h = h
-ruling-lengths x w s (isEnded a n p) h = with-lock h
+ruling-lengths x w s (isEnded a n p) h = closed-lengths n x w h
 ruling-lengths x w s (hasStarted op k g unerased p l) h = with-instant h _ _
 ruling-lengths x w s (hasFound p q) h = h
 ruling-lengths x w s (hasProposed p q) h = h
 ruling-lengths x w s (hasRead p q) h = with-instant h _ _
 ruling-lengths x w s (hasWritten p) h =
     with-rows h (sliced-length false (s .present) x (x .put) ∙ h .present) (sliced-length 0 (s .values) x (x .value) ∙ h .values)
-ruling-lengths x w s (hasEntered i p e) h =
-    with-lock
-    (with-index h
-    (by-test (x .put) (λ put. ap length (e .put put) ∙ length-set (s .index) _ _ ∙ h .index) (λ remove. ap length (e .remove remove) ∙ h .index)))
+ruling-lengths x w s (hasEntered made p e) h = with-lock (with-index h (entered h _ _))
 ruling-lengths x w s (hasChecked p q) h = h
-ruling-lengths x w s (hasCommitted i p q) h = with-lock (with-instant h _ _)
+ruling-lengths x w s (hasCommitted i p q) h = closed-lengths committed x w (with-instant h _ _)
 
 pub step-lengths : (st : State) (s : Step) → StateLengths st → StateLengths (step st s .state)
 unfolding step stepTested act

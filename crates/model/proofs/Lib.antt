@@ -10,6 +10,7 @@ pub mod RangeKept
 pub mod Moves
 pub mod Invariant
 pub mod Kept
+pub mod Binding
 pub mod OwnFacts
 pub mod PhaseKept
 pub mod CommitKept

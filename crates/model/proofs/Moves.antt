@@ -2,11 +2,11 @@
 use Prim.Native.Nat.{ℕ, _+_, _≤_}
 use mathlib.Core.Path.{_≡_}
 use mathlib.Core.Logic.{_≢_}
-use mathlib.Core.Bool.{true, false, cond}
+use mathlib.Core.Bool.{Bool, true, false, cond}
 use mathlib.Core.Option.{Option, none, some}
 use Rattle.common.specs.Counting.{upd}
 use Rattle.model.specs.State.{ready}
-use Rattle.model.specs.Rules.{putsErased, begun, moved, released}
+use Rattle.model.specs.Rules.{putsErased, begun, moved, withMade, released}
 use Rattle.model.specs.History.{Pending, History, startRecorded, commitRecorded, endRecorded}
 use Rattle.model.specs.declared.Writer.{Writer}
 use Rattle.model.specs.declared.Operation.{Operation}
@@ -67,13 +67,13 @@ afterPhase v w x lock entry cell stored =
       stored = stored;
     }
 
--- writer w's operation ends without commit
+-- writer w's operation ends without commit; the index entry that it made is taken out
 abbrev pub afterEnd : View → ℕ → View
 afterEnd v w =
     record {
       last = v .last;
       lock = released (v .lock) w;
-      entry = v .entry;
+      entry = cond (v .writer w .made) (upd (v .entry) (v .writer w .key) 0) (v .entry);
       completed = v .completed;
       cell = v .cell;
       writer = upd (v .writer) w ready;
@@ -97,16 +97,16 @@ afterCommit v w p =
 
 -- writer w, whose record is x, goes on to its next phase: what its record, the lock, the index and the slices become
 pub data NextPhase (v : View) (w : ℕ) (x : Writer) : Writer → ℕ → (ℕ → ℕ) → (ℕ → ℕ → ℕ → Option ℕ) → (ℕ → ℕ → Option ℕ) → Type 0 where
-  looksUp : (g : ℕ) → x .phase ≡ 1 → (x .put ≡ false → v .entry (x .key) ≡ g + 1)
+  looksUp : (g : ℕ) → x .phase ≡ 1
       → NextPhase v w x (moved x 2 g (x .base)) (v .lock) (v .entry) (v .cell) (v .stored)
   reads : (b : ℕ) → x .phase ≡ 2 → Newest (v .completed) (x .group) (v .last) b → b ≤ x .ts
       → NextPhase v w x (moved x 3 (x .group) b) (v .lock) (v .entry) (v .cell) (v .stored)
   writes : x .phase ≡ 3
       → NextPhase v w x (moved x 4 (x .group) (x .base)) (v .lock) (v .entry) (storing (v .cell) x)
       (upd (v .stored) (x .ts) (rowsStored (v .cell) x))
-  indexes : (e : ℕ → ℕ) → (x .put ≡ true → e ≡ upd (v .entry) (x .key) (x .group + 1)) → (x .put ≡ false → e ≡ v .entry) → x .phase ≡ 4
-      → (v .lock ≢ 0 → v .lock ≡ w + 1) → (v .entry (x .key) ≢ 0 → v .entry (x .key) ≡ x .group + 1)
-      → NextPhase v w x (moved x 5 (x .group) (x .base)) (w + 1) e (v .cell) (v .stored)
+  indexes : (made : Bool) → x .phase ≡ 4 → (v .lock ≢ 0 → v .lock ≡ w + 1) → (made ≡ true → (x .put ≡ true) × (v .entry (x .key) ≡ 0))
+      → (made ≡ false → v .entry (x .key) ≡ x .group + 1)
+      → NextPhase v w x (moved (withMade x made) 5 (x .group) (x .base)) (w + 1) (upd (v .entry) (x .key) (x .group + 1)) (v .cell) (v .stored)
   checks : (b : ℕ) → x .phase ≡ 5 → Newest (v .completed) (x .group) (v .last) b → b ≤ x .base
       → NextPhase v w x (moved x 6 (x .group) (x .base)) (v .lock) (v .entry) (v .cell) (v .stored)
 

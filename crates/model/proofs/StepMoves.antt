@@ -1,8 +1,8 @@
 -- A step of the table, with the history recorded by it, is a move of the view (`step-moves`), and so it keeps the invariant (`step-consistent`).
-use Prim.Native.Nat.{ℕ, suc, _+_, _-_, _≤_, _<_}
+use Prim.Native.Nat.{ℕ, suc, _+_, _≤_, _<_}
 use mathlib.Core.Path.{_≡_, refl, sym, ap, _∙_}
 use mathlib.Core.List.{List}
-use mathlib.Core.Bool.{true, false, true≢false, and-false}
+use mathlib.Core.Bool.{true, false, and-false}
 use mathlib.Core.Option.{Option, some}
 use native.Mathlib.Omega.{arith}
 use lib.ListN.{length, getD, set}
@@ -14,14 +14,14 @@ use Rattle.model.specs.Answers.{taken, committed, aborted}
 use Rattle.common.specs.Counting.{upd}
 use Rattle.model.specs.State.{Shared, requested, inflight, completed, cell, ready}
 use Rattle.model.specs.Range.{inRange}
-use Rattle.model.specs.Rules.{begun, moved, Verdict, carried, act, Answered, updated, stepTested, step}
+use Rattle.model.specs.Rules.{begun, moved, withdrawn, Verdict, carried, act, Answered, updated, stepTested, step}
 use Rattle.model.specs.Snapshot.{instantOf}
 use Rattle.model.specs.History.{Pending, History, startRecorded, commitRecorded, endRecorded, recorded}
 use Rattle.model.specs.Isolation.{Execution, isWrite, sliceOf, storedBy, answeredBy, next}
 use Rattle.model.specs.declared.Writer.{Writer}
 use Rattle.model.specs.declared.Action.{Action}
 use Rattle.model.specs.declared.Step.{Step}
-use Rattle.common.proofs.Cases.{cond-iff, facts}
+use Rattle.common.proofs.Cases.{cond-iff, by-test, facts}
 use Rattle.common.proofs.Functions.{upd-same, upd-id, getD-upd}
 use Rattle.model.proofs.CompletedInstants.{groupCompleted, completedAt, completed-group, requested-group, inflight-group}
 use Rattle.model.proofs.CompletedInstants.{instant-next, instant-set, completed-upd, newest-of, group-given}
@@ -120,8 +120,13 @@ module _ (u : Execution) (h : Consistent u) (w : ℕ) (there : w < writers) wher
   writer-path : (y : Writer) → (λ (i : ℕ). getD (set (u .state .writers) w y) i ready) ≡ upd (v .writer) w y
   writer-path y = getD-upd (u .state .writers) w y ready (omega (arith, h .lengths .writers))
 
-  entry-path : (i : List ℕ) {l : List ℕ} → i ≡ l → _≡_ {A = ℕ → ℕ} (λ k. getD i k 0) (λ k. getD l k 0)
-  entry-path i e = ap {B = ℕ → ℕ} (λ (l : List ℕ) (k : ℕ). getD l k 0) e
+  entry-path : (e : ℕ) → (λ (k : ℕ). getD (set (sh .index) (x .key) e) k 0) ≡ upd (v .entry) (x .key) e
+  entry-path e = getD-upd (sh .index) (x .key) e 0 (omega (arith, fits .key, h .lengths .shared .index))
+
+  -- the index after an end without commit
+  withdrawn-path : (n : ℕ) → committed < n → (λ (k : ℕ). getD (withdrawn n (x .made) (x .key) (sh .index)) k 0) ≡ afterEnd v w .entry
+  withdrawn-path n above =
+      rw (ne-eqb n committed (omega arith)) (by-test (x .made) (λ made. rw made (entry-path 0)) (λ unmade. rw unmade))
 
   ruling-moves : {a : Action} {r : Verdict} → Ruling x w sh a r → inRange (updated (u .state) w (carried x w sh r) .state) ≡ true
       → Move v w (viewOf (answeredBy u (record { writer = w; action = a }) (updated (u .state) w (carried x w sh r))))
@@ -133,7 +138,7 @@ module _ (u : Execution) (h : Consistent u) (w : ℕ) (there : w < writers) wher
       (stored-untaken _ _ _ _ (omega arith)))
   ruling-moves (isEnded a n p) fine =
       ends
-      (view-path _ (afterEnd v w) refl refl refl refl refl (writer-path ready) (recorded-ended _ _ n _ (p .0) (p .1))
+      (view-path _ (afterEnd v w) refl refl (withdrawn-path n (p .0)) refl refl (writer-path ready) (recorded-ended _ _ n _ (p .0) (p .1))
       (stored-untaken _ _ _ _ (omega arith)))
   ruling-moves (hasStarted op k g unerased p l) fine =
       starts op unerased p
@@ -143,10 +148,10 @@ module _ (u : Execution) (h : Consistent u) (w : ℕ) (there : w < writers) wher
       ∙ upd-id (v .completed) (suc (sh .last)) _ (h .invariant .above (suc (sh .last)) (omega arith) ∙ sym requested-group))
       refl (writer-path (begun op (sh .last + 1))) (recorded-taken _ _ _) (stored-unwritten _ _ _ _ refl))
   ruling-moves (hasFound p ne) fine =
-      continues (looksUp (v .entry (x .key) - 1) p (λ r. omega arith))
+      continues (looksUp _ p)
       (view-path _ (afterPhase v w _ _ _ _ _) refl refl refl refl refl (writer-path _) (recorded-taken _ _ _) (stored-unwritten _ _ _ _ refl))
   ruling-moves (hasProposed p put) fine =
-      continues (looksUp _ p (λ r. absurd (true≢false (sym put ∙ r))))
+      continues (looksUp _ p)
       (view-path _ (afterPhase v w _ _ _ _ _) refl refl refl refl refl (writer-path _) (recorded-taken _ _ _) (stored-unwritten _ _ _ _ refl))
   ruling-moves (hasRead p q) fine =
       continues (reads _ p (newest-of (sh .timeline) (x .group) (sh .last)) q)
@@ -164,11 +169,9 @@ module _ (u : Execution) (h : Consistent u) (w : ℕ) (there : w < writers) wher
       (view-path _ (afterPhase v w _ _ _ _ _) refl refl refl refl slices (writer-path y) (recorded-taken _ _ _)
       (stored-written _ _ _ _ refl refl
       ∙ rw (ap (λ (f : ℕ → Writer). f w) (writer-path y), upd-same (v .writer) w y, slices) (ap (upd (v .stored) (x .ts)) (stored-own (v .cell) x))))
-  ruling-moves (hasEntered i p e) fine =
-      continues
-      (indexes (λ k. getD i k 0) (λ put. entry-path i (e .put put) ∙ getD-upd (sh .index) (x .key) _ 0 (omega (arith, fits .key, h .lengths .shared .index)))
-      (λ remove. entry-path i (e .remove remove)) p (e .free) (e .same))
-      (view-path _ (afterPhase v w _ _ _ _ _) refl refl refl refl refl (writer-path _) (recorded-taken _ _ _) (stored-unwritten _ _ _ _ refl))
+  ruling-moves (hasEntered made p e) fine =
+      continues (indexes made p (e .free) (e .new) (e .found))
+      (view-path _ (afterPhase v w _ _ _ _ _) refl refl (entry-path _) refl refl (writer-path _) (recorded-taken _ _ _) (stored-unwritten _ _ _ _ refl))
   ruling-moves (hasChecked p q) fine =
       continues (checks _ p (newest-of (sh .timeline) (x .group) (sh .last)) q)
       (view-path _ (afterPhase v w _ _ _ _ _) refl refl refl refl refl (writer-path _) (recorded-taken _ _ _) (stored-unwritten _ _ _ _ refl))

@@ -6,5 +6,6 @@ pub mod Range
 pub mod Snapshot
 pub mod History
 pub mod Isolation
+pub mod Binding
 pub mod Machine
 pub mod Calls

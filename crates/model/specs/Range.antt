@@ -1,4 +1,4 @@
--- The grounds of answer 17 (document 01, below the answer numbers), one test each. A value needs none: its type is its range.
+-- The grounds of answer 17 (document 01, below the answer numbers), one test each. A value needs none, nor does a flag: its type is its range.
 use Prim.Native.Nat.{ℕ}
 use mathlib.Core.Bool.{Bool, _||_}
 use mathlib.Core.List.{List, [], _∷_}

@@ -34,12 +34,17 @@ putsErased (Remove k) = false
 
 -- a writer that has started an operation under timestamp n
 abbrev pub begun : Operation → ℕ → Writer
-begun (Put k v g) n = record { phase = 1; put = true; key = k; group = g; ts = n; base = 0; value = v }
-begun (Remove k) n = record { phase = 1; put = false; key = k; group = 0; ts = n; base = 0; value = 0 }
+begun (Put k v g) n = record { phase = 1; put = true; made = false; key = k; group = g; ts = n; base = 0; value = v }
+begun (Remove k) n = record { phase = 1; put = false; made = false; key = k; group = 0; ts = n; base = 0; value = 0 }
 
 -- a writer at another phase, with a file group and a base
 abbrev pub moved : Writer → ℕ → ℕ → ℕ → Writer
-moved x phase group base = record { phase = phase; put = x .put; key = x .key; group = group; ts = x .ts; base = base; value = x .value }
+moved x phase group base =
+    record { phase = phase; put = x .put; made = x .made; key = x .key; group = group; ts = x .ts; base = base; value = x .value }
+
+-- a writer whose operation has made the index entry of its key, or has not (document 02, Q-4)
+abbrev pub withMade : Writer → Bool → Writer
+withMade x made = record { phase = x .phase; put = x .put; made = made; key = x .key; group = x .group; ts = x .ts; base = x .base; value = x .value }
 
 -- the index entry of key k: 0, or its file group + 1
 abbrev pub entryOf : Shared → ℕ → ℕ
@@ -114,14 +119,16 @@ readBase x s =
 unfoldable pub writeSlice : Writer → Shared → Verdict
 writeSlice x s = cond (not (eqb (x .phase) 3)) (refused wrongPhase) (goesOn (moved x 4 (x .group) (x .base)) (withSlice s x))
 
--- 5: the lock is taken; a key indexed to another group ends the operation, else a put enters its group. No other rule changes the index
+-- 5: the lock is taken; a key indexed to another group ends the operation, and so does a remove whose key is no longer indexed (document 02, Q-4).
+-- Else the key is entered in the writer's group, which is where it is if it is indexed, and the writer notes whether it made the entry
 unfoldable pub enterIndex : Writer → ℕ → Shared → Verdict
 enterIndex x w s =
     cond (not (eqb (x .phase) 4)) (refused wrongPhase)
     (cond (namesOther (s .lock) w) (refused locked)
     (cond (namesOther (entryOf s (x .key)) (x .group)) (ended otherGroup s)
-    (goesOn (moved x 5 (x .group) (x .base))
-    (withLock (withIndex s (cond (x .put) (set (s .index) (x .key) (x .group + 1)) (s .index))) (w + 1)))))
+    (cond (not (x .put) && eqb (entryOf s (x .key)) 0) (ended notIndexed s)
+    (goesOn (moved (withMade x (eqb (entryOf s (x .key)) 0)) 5 (x .group) (x .base))
+    (withLock (withIndex s (set (s .index) (x .key) (x .group + 1))) (w + 1))))))
 
 -- 6: a completed timestamp of the group above the base ends the operation
 unfoldable pub checkConflict : Writer → Shared → Verdict
@@ -161,14 +168,20 @@ outcome n x s = record { answer = n; writer = x; shared = s }
 abbrev pub released : ℕ → ℕ → ℕ
 released l w = cond (eqb l (w + 1)) 0 l
 
--- every operation ends here, committed or not: the lock is freed if held, the writer is ready, the instant stays (document 01, A writer's walk, end)
-abbrev pub closed : ℕ → ℕ → Shared → Outcome
-closed n w s = outcome n ready (withLock s (released (s .lock) w))
+-- the index after an operation on key k has ended with the answer n: the entry is taken out again if the operation made it, unless it has committed;
+-- one that was there before stays (document 02, Q-4)
+abbrev pub withdrawn : ℕ → Bool → ℕ → List ℕ → List ℕ
+withdrawn n made k index = cond (not (eqb n committed) && made) (set index k 0) index
+
+-- every operation ends here, committed or not: the lock is freed if held, the writer is ready, the instant stays (document 01, A writer's walk, end),
+-- and the index entry is withdrawn that it made, unless it has committed
+abbrev pub closed : ℕ → Writer → ℕ → Shared → Outcome
+closed n x w s = outcome n ready (withLock (withIndex s (withdrawn n (x .made) (x .key) (s .index))) (released (s .lock) w))
 
 -- a verdict carried out: refused, nothing changes
 abbrev pub carried : Writer → ℕ → Shared → Verdict → Outcome
 carried x w s (refused n) = outcome n x s
-carried x w s (ended n t) = closed n w t
+carried x w s (ended n t) = closed n x w t
 carried x w s (goesOn y t) = outcome taken y t
 
 -- the action of writer w, whose own record is x

@@ -32,7 +32,7 @@ stateOf t present values =
 
 -- a ready writer has no operation, no timestamp and no base (document 01, A writer's walk, end)
 abbrev pub ready : Writer
-ready = record { phase = 0; put = false; key = 0; group = 0; ts = 0; base = 0; value = 0 }
+ready = record { phase = 0; put = false; made = false; key = 0; group = 0; ts = 0; base = 0; value = 0 }
 
 -- a fresh table: nothing issued, indexed or locked, and all writers ready (document 01, What the engine holds); no row is present, each value is 0
 unfoldable pub fresh : State

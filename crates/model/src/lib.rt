@@ -15,6 +15,8 @@ pub type Value = Word;
 pub struct Writer {
     pub phase: u8,
     pub put: bool,
+    // Has its operation made the index entry of its key?
+    pub made: bool,
     pub key: u8,
     pub group: u8,
     pub ts: u8,

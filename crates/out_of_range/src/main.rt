@@ -32,11 +32,12 @@ const VALUE: Value = 18446744073709551615;
 
 const INSTANT: u8 = COMPLETED + GROUP;
 
-// A writer with a put of the largest value.
+// A writer with a put of the largest value, which has made its key's index entry.
 fn writer(phase: u8, key: u8, group: u8, ts: u8, base: u8) -> Writer {
     Writer {
         phase,
         put: true,
+        made: true,
         key,
         group,
         ts,

@@ -6,7 +6,7 @@ use mathlib.Core.Path.{_≡_, ap, _∙_}
 use Rattle.model.specs.State.{Shared}
 use Rattle.model.specs.Rules as rules
 use Rattle.model.specs.declared.Writer.{Writer}
-use Rattle.rules.specs.Inner.{SameOutcome, CarriesOut, verdictOf}
+use Rattle.rules.specs.Inner.{SameOutcome, CarriedOut, verdictOf}
 use Rattle.rules.specs.Parts.{outcomeOf}
 use Rattle.rules.specs.declared.actions.Verdict.{Verdict}
 use Rattle.rules.specs.declared.actions.Acted.{Acted}
@@ -16,6 +16,6 @@ module _ {x : Writer} {w : ℕ} {A B : Shared → Shared} where
       → {S T : Shared} {v : rules.Verdict} → A S ≡ T → B S ≡ S → C S ≡ v → SameOutcome x w r T S v
   at-state {C} f {S} p q e = record { same = rw (← p, ← e) (f w S .same ∙ ap (λ (s : Shared). rules.carried x w s (C S)) q) }
 
-  pub carries : {r : Acted} {u : Verdict} → ((s : Shared) → CarriesOut x w u (B s) r (A s))
+  pub carries : {r : Acted} {u : Verdict} → ((s : Shared) → CarriedOut x w u (B s) r (A s))
       → {U S T : Shared} {v : rules.Verdict} → SameOutcome x w u U S v → B U ≡ U → A U ≡ T → outcomeOf r T ≡ rules.carried x w S v
   carries {u} f {U} d q p = rw (← p) (f U .same ∙ ap (λ (s : Shared). rules.carried x w s (verdictOf u s)) q ∙ d .same)

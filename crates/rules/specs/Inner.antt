@@ -27,8 +27,12 @@ abbrev pub Follows : Writer → Verdict → Fields → (Shared → rules.Verdict
 Follows x r fields rule = (w : ℕ) (s : Shared) → SameOutcome x w r (fields .after s) (fields .before s) (rule (fields .before s))
 
 -- the answer r, with the shared part t after it, is the verdict v carried out for writer w, whose record is x, where s was before it
-pub record CarriesOut (x : Writer) (w : ℕ) (v : Verdict) (s : Shared) (r : Acted) (t : Shared) : Type 0 where
+pub record CarriedOut (x : Writer) (w : ℕ) (v : Verdict) (s : Shared) (r : Acted) (t : Shared) : Type 0 where
   pub same : outcomeOf r t ≡ rules.carried x w s (verdictOf v s)
+
+-- a function that takes these fields and gives the answer r carries a verdict out
+abbrev pub CarriesOut : Writer → ℕ → Verdict → Acted → Fields → Type 0
+CarriesOut x w v r fields = (s : Shared) → CarriedOut x w v (fields .before s) r (fields .after s)
 
 -- what an actor in range tells, as arithmetic reads it
 pub record Bounds (x : Writer) : Type 0 where

@@ -1,10 +1,11 @@
 // The rules of the eight actions, each on the writer's own record and on what it takes of the shared part; and the one place where an
 // operation ends. The numbers are those of document 01, A writer's walk.
 ghost use mathlib.Core.Path.{_≡_};
-ghost use mathlib.Core.Bool.{cond};
-ghost use Prim.Native.Nat.{_+_, _<_};
+ghost use mathlib.Core.Bool.{not, _&&_};
+ghost use Prim.Native.Nat.{_<_};
+ghost use lib.Dec.{eqb};
 ghost use Rattle.model.specs.Limits.{writers, keys, groups};
-ghost use Rattle.model.specs.State.{Shared, withLast, withLock, withIndex, withTimeline, withPresent, withValues};
+ghost use Rattle.model.specs.State.{withLast, withLock, withIndex, withTimeline, withPresent, withValues};
 ghost use Rattle.model.specs.State as state;
 ghost use Rattle.model.specs.Rules as rules;
 ghost use Rattle.rules.specs.Fields.{noField, reading, changing, together, allFields};
@@ -60,6 +61,7 @@ pub fn ready() -> Writer
     Writer {
         phase: 0,
         put: false,
+        made: false,
         key: 0,
         group: 0,
         ts: 0,
@@ -75,10 +77,27 @@ fn moved(x: Writer, phase: u8, group: u8, base: u8) -> Writer
     Writer {
         phase,
         put: x.put,
+        made: x.made,
         key: x.key,
         group,
         ts: x.ts,
         base,
+        value: x.value,
+    }
+}
+
+// A writer whose operation has made the index entry of its key, or has not.
+fn with_made(x: Writer, made: bool) -> Writer
+    ensures { λ r. ⌜ r ≡ rules.withMade x made ⌝ }
+{
+    Writer {
+        phase: x.phase,
+        put: x.put,
+        made,
+        key: x.key,
+        group: x.group,
+        ts: x.ts,
+        base: x.base,
         value: x.value,
     }
 }
@@ -134,6 +153,7 @@ fn begin(op: Operation, ts: u8) -> Writer
         Operation::Put { key, value, group } => Writer {
             phase: 1,
             put: true,
+            made: false,
             key: key as u8,
             group: group as u8,
             ts,
@@ -143,6 +163,7 @@ fn begin(op: Operation, ts: u8) -> Writer
         Operation::Remove { key } => Writer {
             phase: 1,
             put: false,
+            made: false,
             key: key as u8,
             group: 0,
             ts,
@@ -242,15 +263,18 @@ fn names_other(entry: u8, n: u8) -> bool
     entry != n + 1
 }
 
-// The index entry of a key after an operation of a file group: a put enters the group, a remove leaves the entry.
-fn entry_after(put: bool, group: u8, entry: u8) -> u8
-    requires { ⌜ group < groups ⌝ }
-    ensures { λ r. ⌜ r ≡ cond put (group + 1) entry ⌝ }
+// Is it a remove, of a key without an index entry?
+fn removes_unindexed(put: bool, entry: u8) -> bool
+    ensures { λ r. ⌜ r ≡ (not put && eqb entry 0) ⌝ }
 {
-    if put { group + 1 } else { entry }
+    if put {
+        return false;
+    }
+    entry == 0
 }
 
-// 5. Index: writer w takes the lock and enters a put's key, unless the lock is another writer's or the key another group's.
+// 5. Index: writer w takes the lock and enters its key, unless the lock is another writer's, the key another group's, or a remove's key no longer
+// indexed. It notes whether there was no entry yet.
 fn enter_index(x: Writer, w: u8, lock: &mut u8, index: &mut [u8; KEYS]) -> Verdict
     requires { ⌜ (w < writers) × Bounds x ⌝ }
     ensures { λ r. ⌜ Follows x r (together (changing withLock lock) (changing withIndex index)) (rules.enterIndex x w) ⌝ }
@@ -267,9 +291,12 @@ fn enter_index(x: Writer, w: u8, lock: &mut u8, index: &mut [u8; KEYS]) -> Verdi
     if names_other(entry, x.group) {
         return Verdict::Ended(OTHER_GROUP);
     }
-    index[key] = entry_after(x.put, x.group, entry);
+    if removes_unindexed(x.put, entry) {
+        return Verdict::Ended(NOT_INDEXED);
+    }
+    index[key] = x.group + 1;
     *lock = w + 1;
-    Verdict::GoesOn(moved(x, 5, x.group, x.base))
+    Verdict::GoesOn(moved(with_made(x, entry == 0), 5, x.group, x.base))
 }
 
 // 6. Check: nothing was completed in the file group above the base.
@@ -346,11 +373,26 @@ fn released(lock: u8, w: u8) -> u8
     if lock == w + 1 { 0 } else { lock }
 }
 
-// A verdict carried out for writer w. Every operation that ends or commits closes here: its writer is ready, and the lock free if the writer
-// held it.
-pub fn carry_out(v: Verdict, x: Writer, w: u8, lock: &mut u8) -> Acted
-    requires { ⌜ w < writers ⌝ }
-    ensures { λ r. ⌜ ((s : Shared) → CarriesOut x w v (withLock s (now (lock .entry))) r (withLock s (now (lock .exit)))) ⌝ }
+// The index after an operation on a key has ended with an answer: the entry that it made is taken out again, unless it has committed.
+fn withdraw(answer: u8, made: bool, key: u8, index: &mut [u8; KEYS])
+    requires { ⌜ key < keys ⌝ }
+    ensures { λ r. ⌜ now (index .exit) ≡ rules.withdrawn answer made key (now (index .entry)) ⌝ }
+{
+    if answer == COMMITTED {
+        return;
+    }
+    if !made {
+        return;
+    }
+    let slot = key as usize;
+    index[slot] = 0;
+}
+
+// A verdict carried out for writer w. Every operation that ends or commits closes here: its writer is ready, the lock free if the writer held it,
+// and the index entry withdrawn that it made, unless it has committed.
+pub fn carry_out(v: Verdict, x: Writer, w: u8, lock: &mut u8, index: &mut [u8; KEYS]) -> Acted
+    requires { ⌜ (w < writers) × Bounds x ⌝ }
+    ensures { λ r. ⌜ CarriesOut x w v r (together (changing withLock lock) (changing withIndex index)) ⌝ }
 {
     match v {
         Verdict::Refused(n) => Acted {
@@ -358,6 +400,7 @@ pub fn carry_out(v: Verdict, x: Writer, w: u8, lock: &mut u8) -> Acted
             writer: x,
         },
         Verdict::Ended(n) => {
+            withdraw(n, x.made, x.key, &mut *index);
             let held = *lock;
             *lock = released(held, w);
             Acted {

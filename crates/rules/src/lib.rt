@@ -70,5 +70,5 @@ pub fn act(
         &mut *present,
         &mut *values,
     );
-    actions::carry_out(v, x, w, &mut *lock)
+    actions::carry_out(v, x, w, &mut *lock, &mut *index)
 }

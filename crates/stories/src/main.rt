@@ -1,4 +1,5 @@
 // Source 002's examples, document 01's traces and document 02's rules, run as logs and step by step.
+mod entries;
 mod examples;
 mod traces;
 
@@ -14,4 +15,7 @@ fn main() {
     traces::ends();
     traces::starts();
     traces::stops();
+    entries::taken_out();
+    entries::left();
+    entries::looked_up();
 }

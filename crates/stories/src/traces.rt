@@ -70,14 +70,14 @@ pub fn erased_word() {
 }
 
 pub fn ends() {
-    // A writer gives up at each phase from 1 on, and at phase 0 it cannot. Its index entry stays, and the lock is free again.
+    // A writer gives up at each phase from 1 on, and at phase 0 it cannot. Its index entry is taken out, and the lock is free again.
     let giving_up = b"\
         at phase 0:\x00\x09;\
         at phases 1 to 4:\x00\x01\x01\x0a\x01\x00\x09\x00\x01\x01\x0a\x01\x00\x03\x00\x09\
         \x00\x01\x01\x0a\x01\x00\x03\x00\x04\x00\x09\x00\x01\x01\x0a\x01\x00\x03\x00\x04\x00\x05\x00\x09;\
         at phases 5 and 6:\x00\x01\x01\x0a\x01\x00\x03\x00\x04\x00\x05\x00\x06\x00\x09\
         \x00\x01\x01\x0a\x01\x00\x03\x00\x04\x00\x05\x00\x06\x00\x07\x00\x09;\
-        key 1 stays in group 1:\x01\x01\x01\x0b\x02\x01\x03\x01\x04\x01\x05\x01\x06\x01\x07\x01\x08;";
+        key 1 is in no group:\x01\x01\x01\x0b\x02\x01\x03\x01\x04\x01\x05\x01\x06\x01\x07\x01\x08;";
     story(b"Giving up", giving_up, 1, 7);
     // A key is put, removed, and put again with another proposed group: it keeps its own. Its neighbour stays.
     let removes = b"\

@@ -1,9 +1,9 @@
 // A table whose lock no step has given to its holder.
 use crate::set::bare;
 use crate::set::putting;
+use crate::set::removing;
 use crate::set::story;
 use model::Table;
-use model::Writer;
 use model::instants::COMPLETED;
 use model::instants::INFLIGHT;
 
@@ -15,15 +15,7 @@ fn held() -> Table {
     t.timeline[1] = INFLIGHT + 4;
     t.timeline[2] = INFLIGHT + 6;
     t.writers[0] = putting(6, 1, 11, 4, 2, 1);
-    t.writers[1] = Writer {
-        phase: 5,
-        put: false,
-        key: 2,
-        group: 4,
-        ts: 3,
-        base: 1,
-        value: 0,
-    };
+    t.writers[1] = removing(5, 2, 4, 3, 1);
     t
 }
 

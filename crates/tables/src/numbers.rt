@@ -1,9 +1,9 @@
 // A table in range with numbers that no steps give.
 use crate::set::bare;
 use crate::set::putting;
+use crate::set::removing;
 use crate::set::story;
 use model::Table;
-use model::Writer;
 use model::instants::COMPLETED;
 
 // Timestamps 3 to 5 are issued and have no instant. Writer 0, at its read step, holds timestamp 1, which is completed in its own file group.
@@ -14,15 +14,7 @@ fn table_with() -> Table {
     t.timeline[0] = COMPLETED + 2;
     t.timeline[1] = COMPLETED + 3;
     t.writers[0] = putting(2, 4, 41, 2, 1, 5);
-    t.writers[1] = Writer {
-        phase: 4,
-        put: false,
-        key: 9,
-        group: 2,
-        ts: 4,
-        base: 0,
-        value: 0,
-    };
+    t.writers[1] = removing(4, 9, 2, 4, 0);
     t.writers[3] = putting(3, 8, 80, 2, 4, 5);
     t.writers[15] = putting(0, 31, 7, 7, 5, 5);
     t
@@ -34,8 +26,7 @@ pub fn not_given() {
         as it is:;\
         writer 0 reads:\x00\x04;\
         writer 0 commits:\x00\x05\x00\x06\x00\x07\x00\x08;\
-        writer 1 indexes:\x01\x06;\
-        writer 1's check fails:\x01\x07;\
+        writer 1's key is not indexed:\x01\x06;\
         writer 3 commits:\x03\x05\x03\x06\x03\x07\x03\x08;\
         key 9 is in no group:\x02\x01\x09\x5b\x03\x02\x03\x02\x04;\
         writer 15 starts anew:\x0f\x01\x1e\x46\x06\x0f\x03\x0f\x04\x0f\x05\x0f\x06\x0f\x07\x0f\x08;";

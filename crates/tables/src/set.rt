@@ -12,11 +12,26 @@ pub fn putting(phase: u8, key: u8, value: Value, group: u8, ts: u8, base: u8) ->
     Writer {
         phase,
         put: true,
+        made: false,
         key,
         group,
         ts,
         base,
         value,
+    }
+}
+
+// A writer with a remove.
+pub fn removing(phase: u8, key: u8, group: u8, ts: u8, base: u8) -> Writer {
+    Writer {
+        phase,
+        put: false,
+        made: false,
+        key,
+        group,
+        ts,
+        base,
+        value: 0,
     }
 }
 

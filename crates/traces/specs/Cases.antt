@@ -71,7 +71,7 @@ instantsNumbers st (t ∷ ts) = instantNumbers (instantAt st t) ++ instantsNumbe
 
 -- a writer's record
 abbrev pub writerNumbers : Writer → List ℕ
-writerNumbers x = x .phase ∷ cond (x .put) 1 0 ∷ x .key ∷ x .group ∷ x .ts ∷ x .base ∷ x .value ∷ []
+writerNumbers x = x .phase ∷ cond (x .put) 1 0 ∷ cond (x .made) 1 0 ∷ x .key ∷ x .group ∷ x .ts ∷ x .base ∷ x .value ∷ []
 
 -- the last timestamp, the lock, a key's index entry and a writer's record
 abbrev pub standing : Shared → Writer → ℕ → List ℕ

@@ -1,7 +1,7 @@
 -- What the definitions give, in one table with one claim about all of it: document 01's traces (Traces to hold it to) that are marked P, with the
 -- writers and timestamps of document 02, Q-6, and the numbers of Q-8; and cases for what no law of the whole table says: the stops of numbers and
 -- records, logs of the old rule, the log writer's refusals, histories, instants, the grounds of 17 one by one, the refusals in their order, the erased
--- word (document 02, Q-3), the search of the check and its count (Q-2), tables that no run reaches.
+-- word (document 02, Q-3), the search of the check and its count (Q-2), index entries that are taken out again (Q-4), tables that no run reaches.
 use Prim.Native.Nat.{ℕ, _-_}
 use mathlib.Core.Path.{_≡_, refl}
 use mathlib.Core.Bool.{true, false}
@@ -14,7 +14,7 @@ use Rattle.model.specs.Limits.{writers, timestamps}
 use Rattle.model.specs.State.{Shared, State, ready, fresh, requested, inflight, completed, newest, rowAt, cell}
 use Rattle.model.specs.State.{withLast, withLock, withIndex, withTimeline, withPresent, withValues}
 use Rattle.model.specs.Range.{inRange, writersInRange, indexInRange, instantsInRange, noneAbove}
-use Rattle.model.specs.Rules.{withInstant, copied, sliced, start, lookUp, readBase, writeSlice, enterIndex, checkConflict, commit, abort}
+use Rattle.model.specs.Rules.{withMade, withInstant, copied, sliced, start, lookUp, readBase, writeSlice, enterIndex, checkConflict, commit, abort}
 use Rattle.model.specs.Rules.{ruled, act, stepTested, step}
 use Rattle.model.specs.Machine.{answersFrom}
 use Rattle.model.specs.Snapshot.{rowsAt, numbers, scan, pointRead, instantState, instantAt}
@@ -87,6 +87,35 @@ putAndRemove = whole 0 (Put 1 10 1) ++ whole 3 (Put 1 11 5) ++ whole 3 (Remove 1
 -- a put in a group that has a commit
 abbrev secondPut : List Step
 secondPut = whole 0 (Put 5 10 3) ++ whole 2 (Put 6 55 3)
+
+-- a put of key 1 in group 0 that makes its entry
+abbrev makesEntry : List Step
+makesEntry = whole 0 (Put 1 10 0)
+
+-- it is given up after n steps
+abbrev givenUpAfter : ℕ → List Step
+givenUpAfter n = take n makesEntry ++ does 0 Abort ∷ []
+
+-- a put of the same key that proposes group 1
+abbrev proposes : List Step
+proposes = whole 2 (Put 1 20 1)
+
+-- key 1 is put; then another put of it is given up after n steps
+abbrev entryBefore : ℕ → List Step
+entryBefore n = makesEntry ++ take n (whole 1 (Put 1 11 1)) ++ does 1 Abort ∷ []
+
+-- key 1 is put; then another put of it fails its check
+abbrev failsLater : List Step
+failsLater =
+    makesEntry ++ take 3 (whole 1 (Put 1 11 1)) ++ whole 2 (Put 2 20 0) ++ (does 1 Write ∷ does 1 Index ∷ does 1 Check ∷ [])
+
+-- writer 1, with an operation on key 1, looks up the entry that writer 0 has made, and comes to its index step; writer 0 gives up
+abbrev lookedUp : Operation → List Step
+lookedUp op = take 5 makesEntry ++ take 4 (whole 1 op) ++ does 0 Abort ∷ []
+
+-- a remove of a key that is put, as far as its index step
+abbrev removesIndexed : List Step
+removesIndexed = whole 0 (Put 6 10 3) ++ take 5 (whole 1 (Remove 6))
 
 -- a step of each kind, and their log
 abbrev everyKind : List Step
@@ -167,13 +196,18 @@ withWriter st w x = record { shared = st .shared; writers = set (st .writers) w 
 
 -- a writer with a put in progress, with one of 55, and with a remove
 abbrev putting : ℕ → ℕ → ℕ → ℕ → ℕ → ℕ → Writer
-putting value phase key group ts base = record { phase = phase; put = true; key = key; group = group; ts = ts; base = base; value = value }
+putting value phase key group ts base =
+    record { phase = phase; put = true; made = false; key = key; group = group; ts = ts; base = base; value = value }
 
 abbrev busy : ℕ → ℕ → ℕ → ℕ → ℕ → Writer
 busy = putting 55
 
 abbrev removing : ℕ → ℕ → ℕ → ℕ → ℕ → Writer
-removing phase key group ts base = record { phase = phase; put = false; key = key; group = group; ts = ts; base = base; value = 0 }
+removing phase key group ts base = record { phase = phase; put = false; made = false; key = key; group = group; ts = ts; base = base; value = 0 }
+
+-- the same writer, which has made its key's index entry
+abbrev maker : Writer → Writer
+maker x = withMade x true
 
 -- timestamp 1 is inflight in group 0, and writer 0 is x
 abbrev oneInflight : Writer → State
@@ -209,7 +243,7 @@ abbrev staleRows : State
 staleRows =
     let values = set (fresh .shared .values) (rowAt 0 1 1) 11 in
     let shared = withRow 0 1 0 10 (withRow 0 1 2 12 (withRow 0 2 1 13 (withRow 1 2 0 14 (withValues (withInstants (completed 0 ∷ inflight 0 ∷ [])) values)))) in
-    let remover : Writer = record { phase = 3; put = false; key = 2; group = 0; ts = 2; base = 1; value = 7 } in
+    let remover : Writer = record { phase = 3; put = false; made = false; key = 2; group = 0; ts = 2; base = 1; value = 7 } in
     withWriter (withWriter (table shared) 0 remover) 1 (busy 3 1 1 2 0)
 
 -- all timestamps are issued, writer 5 holds the lock, writer 1 is at phase 1, and writer 2 at phase 4 with a key of another group
@@ -221,12 +255,16 @@ refusing =
 abbrev holding : Writer → State
 holding x = withWriter (table (withEntry (withLock (withInstants (completed 0 ∷ completed 1 ∷ [])) 6) 5 4)) 0 x
 
+-- the same, with the lock free
+abbrev unlocked : Writer → State
+unlocked x = record { shared = withLock (holding x .shared) 0; writers = holding x .writers }
+
 -- n timestamps are issued, and every other number is the largest in range; one row is shown at timestamp 1
 abbrev atLargest : ℕ → State
 atLargest n =
     record {
       shared = withRow 7 1 0 largestNumber (withIndex (withLock (withInstants (replicate n (completed 7))) 16) (replicate 32 8));
-      writers = replicate writers (putting largestNumber 6 31 7 n n);
+      writers = replicate writers (maker (putting largestNumber 6 31 7 n n));
     }
 
 -- the same, with something else in what writers share, or in one writer
@@ -243,7 +281,7 @@ outOfRangeNumbers = 17 ∷ 17 ∷ 17 ∷ 0 ∷ 99 ∷ 99 ∷ 17 ∷ []
 
 -- the record of a ready writer
 abbrev readyNumbers : List ℕ
-readyNumbers = 0 ∷ 0 ∷ 0 ∷ 0 ∷ 0 ∷ 0 ∷ 0 ∷ []
+readyNumbers = 0 ∷ 0 ∷ 0 ∷ 0 ∷ 0 ∷ 0 ∷ 0 ∷ 0 ∷ []
 
 -- n writers have nothing in progress
 abbrev idle : ℕ → List ℕ
@@ -378,15 +416,13 @@ traces =
     ∷ (stands fresh (take 9 secondPut) 2 6 gives 2 ∷ 0 ∷ 0 ∷ writerNumbers (busy 2 6 3 2 0))
     ∷ (stands fresh (take 10 secondPut) 2 6 gives 2 ∷ 0 ∷ 0 ∷ writerNumbers (busy 3 6 3 2 1))
     ∷ (stands fresh (take 11 secondPut) 2 6 gives 2 ∷ 0 ∷ 0 ∷ writerNumbers (busy 4 6 3 2 1))
-    ∷ (stands fresh (take 12 secondPut) 2 6 gives 2 ∷ 3 ∷ 4 ∷ writerNumbers (busy 5 6 3 2 1))
-    ∷ (stands fresh (take 13 secondPut) 2 6 gives 2 ∷ 3 ∷ 4 ∷ writerNumbers (busy 6 6 3 2 1))
+    ∷ (stands fresh (take 12 secondPut) 2 6 gives 2 ∷ 3 ∷ 4 ∷ writerNumbers (maker (busy 5 6 3 2 1)))
+    ∷ (stands fresh (take 13 secondPut) 2 6 gives 2 ∷ 3 ∷ 4 ∷ writerNumbers (maker (busy 6 6 3 2 1)))
     ∷ (stands fresh secondPut 2 6 gives 2 ∷ 0 ∷ 4 ∷ readyNumbers)
-    -- a remove carries no value and no group before its look up, and its index step enters nothing
+    -- a remove carries no value and no group before its look up
     ∷ (stands fresh (does 2 (Start (Remove 6)) ∷ []) 2 6 gives 1 ∷ 0 ∷ 0 ∷ writerNumbers (removing 1 6 0 1 0))
-    ∷ (stands (oneInflight (removing 4 6 0 1 0)) (does 0 Index ∷ []) 0 6
-    gives 1 ∷ 1 ∷ 0 ∷ writerNumbers (removing 5 6 0 1 0))
     -- after an ending the writer is ready: 5, 4, 3 and 2; it frees its own lock and no other's
-    ∷ (stands fresh (p5 0 1) 1 1 gives 2 ∷ 0 ∷ 1 ∷ readyNumbers)
+    ∷ (stands fresh (p5 0 1) 1 1 gives 2 ∷ 0 ∷ 0 ∷ readyNumbers)
     ∷ (stands fresh p6 1 1 gives 2 ∷ 0 ∷ 1 ∷ readyNumbers)
     ∷ (stands fresh p7 1 0 gives 3 ∷ 0 ∷ 1 ∷ readyNumbers)
     ∷ (stands fresh p8 0 0 gives 1 ∷ 0 ∷ 0 ∷ readyNumbers)
@@ -394,7 +430,7 @@ traces =
     ∷ (stands (holding (busy 5 6 0 1 0)) (does 0 Check ∷ []) 0 6 gives 2 ∷ 6 ∷ 0 ∷ readyNumbers)
     ∷ (stands (holding (busy 6 6 0 2 2)) (does 0 Commit ∷ []) 0 6 gives 2 ∷ 6 ∷ 0 ∷ readyNumbers)
     -- a start takes nothing over from the record of a ready writer
-    ∷ (stands (holding (busy 0 6 1 2 2)) (does 0 (Start (Put 5 55 3)) ∷ []) 0 5 gives 3 ∷ 6 ∷ 4 ∷ writerNumbers (busy 1 5 3 3 0))
+    ∷ (stands (holding (maker (busy 0 6 1 2 2))) (does 0 (Start (Put 5 55 3)) ∷ []) 0 5 gives 3 ∷ 6 ∷ 4 ∷ writerNumbers (busy 1 5 3 3 0))
     -- a look up leaves the base, of a key that is indexed or not; a read at the writer's own timestamp is not too late; a check at the base is no change
     ∷ (stands (holding (busy 1 6 0 1 2)) (does 0 LookUp ∷ []) 0 6 gives 2 ∷ 6 ∷ 0 ∷ writerNumbers (busy 2 6 0 1 2))
     ∷ (stands (holding (busy 1 5 0 1 2)) (does 0 LookUp ∷ []) 0 5 gives 2 ∷ 6 ∷ 4 ∷ writerNumbers (busy 2 5 3 1 2))
@@ -427,7 +463,50 @@ traces =
     ∷ (searched [] 0 0 3 gives 0 ∷ 3 ∷ [])
     -- an index step that holds the lock already
     ∷ (stands (withWriter (table (withLock (withInstants (inflight 0 ∷ [])) 1)) 0 (busy 4 6 0 1 0)) (does 0 Index ∷ []) 0 6
-    gives 1 ∷ 1 ∷ 1 ∷ writerNumbers (busy 5 6 0 1 0))
+    gives 1 ∷ 1 ∷ 1 ∷ writerNumbers (maker (busy 5 6 0 1 0)))
+    -- the entry of a put that ends with 5, or is given up at phase 5 or 6, is taken out, and a put that proposes another group commits there
+    ∷ (answers fresh (p5 0 1 ++ proposes) gives 0 ∷ 0 ∷ 0 ∷ 0 ∷ 0 ∷ 0 ∷ 0 ∷ 0 ∷ 0 ∷ 1 ∷ 0 ∷ 0 ∷ 5 ∷ 0 ∷ 0 ∷ 0 ∷ 0 ∷ 0 ∷ 0 ∷ 1 ∷ [])
+    ∷ (answers fresh (givenUpAfter 5 ++ proposes) gives 0 ∷ 0 ∷ 0 ∷ 0 ∷ 0 ∷ 6 ∷ 0 ∷ 0 ∷ 0 ∷ 0 ∷ 0 ∷ 0 ∷ 1 ∷ [])
+    ∷ (answers fresh (givenUpAfter 6 ++ proposes) gives 0 ∷ 0 ∷ 0 ∷ 0 ∷ 0 ∷ 0 ∷ 6 ∷ 0 ∷ 0 ∷ 0 ∷ 0 ∷ 0 ∷ 0 ∷ 1 ∷ [])
+    ∷ (instants fresh (p5 0 1 ++ proposes) (3 ∷ []) gives isCompleted 1)
+    ∷ (instants fresh (givenUpAfter 5 ++ proposes) (2 ∷ []) gives isCompleted 1)
+    ∷ (instants fresh (givenUpAfter 6 ++ proposes) (2 ∷ []) gives isCompleted 1)
+    ∷ (stands fresh (givenUpAfter 5) 0 1 gives 1 ∷ 0 ∷ 0 ∷ readyNumbers)
+    ∷ (stands fresh (givenUpAfter 6) 0 1 gives 1 ∷ 0 ∷ 0 ∷ readyNumbers)
+    -- an entry that was there before stays: a put past its index step has not made it; it gives up there, at phase 6, or its check fails
+    ∷ (stands fresh (take 12 (entryBefore 5)) 1 1 gives 2 ∷ 2 ∷ 1 ∷ writerNumbers (putting 11 5 1 0 2 1))
+    ∷ (stands fresh (entryBefore 5) 1 1 gives 2 ∷ 0 ∷ 1 ∷ readyNumbers)
+    ∷ (stands fresh (entryBefore 6) 1 1 gives 2 ∷ 0 ∷ 1 ∷ readyNumbers)
+    ∷ (stands fresh failsLater 1 1 gives 3 ∷ 0 ∷ 1 ∷ readyNumbers)
+    ∷ (instants fresh (entryBefore 5 ++ proposes) (3 ∷ []) gives isCompleted 0)
+    -- a remove does not make its entry, which stays where it gives up
+    ∷ (stands fresh removesIndexed 1 6 gives 2 ∷ 2 ∷ 4 ∷ writerNumbers (removing 5 6 3 2 1))
+    ∷ (stands fresh (removesIndexed ++ does 1 Abort ∷ []) 1 6 gives 2 ∷ 0 ∷ 4 ∷ readyNumbers)
+    -- a remove that looked up an entry which is then taken out ends with 2 at its index step, and the lock is free for the next index step
+    ∷ (answers fresh (lookedUp (Remove 1) ++ does 1 Index ∷ take 5 (whole 2 (Put 2 20 0)))
+    gives 0 ∷ 0 ∷ 0 ∷ 0 ∷ 0 ∷ 0 ∷ 0 ∷ 0 ∷ 0 ∷ 6 ∷ 2 ∷ 0 ∷ 0 ∷ 0 ∷ 0 ∷ 0 ∷ [])
+    ∷ (stands fresh (lookedUp (Remove 1) ++ does 1 Index ∷ []) 1 1 gives 2 ∷ 0 ∷ 0 ∷ readyNumbers)
+    ∷ (history (lookedUp (Remove 1) ++ does 1 Index ∷ []) gives 2 ∷ idle writers)
+    -- a put that looked it up keeps the group that it found, makes the entry again and commits there
+    ∷ (stands fresh (lookedUp (Put 1 11 1) ++ does 1 Index ∷ []) 1 1 gives 2 ∷ 2 ∷ 1 ∷ writerNumbers (maker (putting 11 5 1 0 2 0)))
+    ∷ (instants fresh (lookedUp (Put 1 11 1) ++ does 1 Index ∷ does 1 Check ∷ does 1 Commit ∷ []) (2 ∷ []) gives isCompleted 0)
+    -- the index step's refusal comes before its endings: 16, where 4 or 2 would come; a remove of another group's key ends with 4; a remove that ends
+    -- with 2 frees the lock that it holds
+    ∷ (answers (holding (busy 4 5 0 1 0)) (does 0 Index ∷ []) gives 16 ∷ [])
+    ∷ (answers (holding (removing 4 6 0 1 0)) (does 0 Index ∷ []) gives 16 ∷ [])
+    ∷ (answers (unlocked (removing 4 5 0 1 0)) (does 0 Index ∷ []) gives 4 ∷ [])
+    ∷ (stands (withWriter (table (withLock (withInstants (inflight 0 ∷ [])) 1)) 0 (removing 4 6 0 1 0)) (does 0 Index ∷ []) 0 6
+    gives 1 ∷ 0 ∷ 0 ∷ readyNumbers)
+    -- a writer that no steps have given its flag: an end without commit takes its key's entry out, at any phase and whatever the entry names (6, 3, 4
+    -- and 5); a look up and a refusal leave the flag, an index step that finds the entry clears it, and a commit leaves the entry
+    ∷ (stands (holding (maker (busy 1 5 0 1 0))) (does 0 Abort ∷ []) 0 5 gives 2 ∷ 6 ∷ 0 ∷ readyNumbers)
+    ∷ (stands (holding (maker (busy 2 5 1 1 0))) (does 0 Read ∷ []) 0 5 gives 2 ∷ 6 ∷ 0 ∷ readyNumbers)
+    ∷ (stands (unlocked (maker (busy 4 5 0 1 0))) (does 0 Index ∷ []) 0 5 gives 2 ∷ 0 ∷ 0 ∷ readyNumbers)
+    ∷ (stands (holding (maker (removing 5 5 0 1 0))) (does 0 Check ∷ []) 0 5 gives 2 ∷ 6 ∷ 0 ∷ readyNumbers)
+    ∷ (stands (holding (maker (busy 1 5 0 1 2))) (does 0 LookUp ∷ []) 0 5 gives 2 ∷ 6 ∷ 4 ∷ writerNumbers (maker (busy 2 5 3 1 2)))
+    ∷ (stands (holding (maker (busy 4 5 3 1 0))) (does 0 Index ∷ []) 0 5 gives 2 ∷ 6 ∷ 4 ∷ writerNumbers (maker (busy 4 5 3 1 0)))
+    ∷ (stands (unlocked (maker (busy 4 5 3 1 0))) (does 0 Index ∷ []) 0 5 gives 2 ∷ 1 ∷ 4 ∷ writerNumbers (busy 5 5 3 1 0))
+    ∷ (stands (holding (maker (busy 6 5 3 2 2))) (does 0 Commit ∷ []) 0 5 gives 2 ∷ 6 ∷ 4 ∷ readyNumbers)
     -- the actions at each phase: start, look up, read, write, index, check, commit, abort
     ∷ (eachAnswer (atPhase 0) gives 0 ∷ 14 ∷ 14 ∷ 14 ∷ 14 ∷ 14 ∷ 14 ∷ 14 ∷ [])
     ∷ (eachAnswer (atPhase 1) gives 14 ∷ 0 ∷ 14 ∷ 14 ∷ 14 ∷ 14 ∷ 14 ∷ 6 ∷ [])
@@ -464,7 +543,7 @@ traces =
     ∷ does 4294967296 (Start (Put 0 0 0)) ∷ does 0 (Start (Put 4294967296 0 0)) ∷ does 0 (Start (Put 0 0 4294967296)) ∷ [])
     gives 10 ∷ 12 ∷ 12 ∷ 13 ∷ 10 ∷ 12 ∷ 13 ∷ [])
     -- a value of more than 32 bits: in the writer's record, in a scan and in a point read
-    ∷ (stands fresh (does 0 (Start wideValue) ∷ []) 0 1 gives 1 ∷ 0 ∷ 0 ∷ 1 ∷ 1 ∷ 1 ∷ 2 ∷ 1 ∷ 0 ∷ 4294967297 ∷ [])
+    ∷ (stands fresh (does 0 (Start wideValue) ∷ []) 0 1 gives 1 ∷ 0 ∷ 0 ∷ 1 ∷ 1 ∷ 0 ∷ 1 ∷ 2 ∷ 1 ∷ 0 ∷ 4294967297 ∷ [])
     ∷ (scanned fresh (whole 0 wideValue) 1 3 gives 0 ∷ 1 ∷ 1 ∷ 4294967297 ∷ 2 ∷ [])
     ∷ (read fresh (whole 0 wideValue) 1 1 gives 0 ∷ 1 ∷ 4294967297 ∷ 2 ∷ [])
     -- rows: the first place, one between and the last; a write step stores every row of its slice, absent ones with their value, and no other;
@@ -488,7 +567,8 @@ traces =
     ∷ (scanned oneKeyTwice [] 2 6 gives 0 ∷ 2 ∷ 5 ∷ 8 ∷ 0 ∷ 5 ∷ 7 ∷ 1 ∷ [])
     ∷ (read oneKeyTwice [] 2 5 gives 0 ∷ 1 ∷ 8 ∷ 0 ∷ [])
     ∷ (read oneKeyTwice [] 1 5 gives 0 ∷ 1 ∷ 7 ∷ 1 ∷ [])
-    -- in range: every number the largest, with all timestamps issued and with 20; a ready writer with a timestamp; a base above the timestamp
+    -- in range: every number the largest and every writer's flag set, with all timestamps issued and with 20; a ready writer with a timestamp; a base
+    -- above the timestamp
     ∷ (judged (atLargest 128) gives inRangeNumbers)
     ∷ (judged (atLargest 20) gives inRangeNumbers)
     ∷ (judged (withWriter (atLargest 20) 0 (busy 0 31 7 20 20)) gives inRangeNumbers)

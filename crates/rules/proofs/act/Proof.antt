@@ -37,15 +37,16 @@ decide-requires c κs = let t = c .before .before .before .before .before .befor
     (omega arith, actor-bounds (now (a .args .last)) (a .args .x) (sym (t .before .actor-in-range .ensures) ∙ not-false _ (t .if3 .left)))
 
 carry-out-requires : tie.Need-carry-out-requires
-carry-out-requires c κs = search needs
+carry-out-requires c κs = let t = c .before .before .before in
+    decide-requires t (t .before .before .before .before .before .before .before .before .before .before .before .before .before .κs)
 
 returns-4 : tie.Need-returns-4
 unfolding actOnParts act
-returns-4 c = let t = c .before .before .before .before .before .before .before .before .before .before in
-    let i = c .before .before .before .before .before .before .before .before .before .before .before .before .before in
+returns-4 c = let t = c .before .before .before .before .before .before .before .before .before .before .before in
+    let i = t .before .before .before in
     λ o.
     rw (i .before .before .if1 .left, lt-leb _ _ (i .if2 .left), ← t .before .actor-in-range .ensures, t .if3 .left)
-    (carries (c .carry-out .ensures) (c .before .before .decide .ensures _ o) refl refl)
+    (carries (c .carry-out .ensures) (c .before .before .before .decide .ensures _ o) refl refl)
 
 pub act-spec : {M : Type 1} → statement M
 act-spec =

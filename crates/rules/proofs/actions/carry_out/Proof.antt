@@ -9,6 +9,9 @@ enum-known-v c = search needs
 enum-known-v-2 : tie.Need-enum-known-v-2
 enum-known-v-2 c = search needs
 
+withdraw-requires : tie.Need-withdraw-requires
+withdraw-requires c κs = search needs
+
 released-requires : tie.Need-released-requires
 released-requires c κs = search needs
 
@@ -22,7 +25,10 @@ returns : tie.Need-returns
 returns c = λ s. record { same = rw (c .before .v .given .1) }
 
 returns-2 : tie.Need-returns-2
-returns-2 c = λ s. record { same = rw (c .before .before .before .before .v2 .given .1, c .ready .ensures, c .before .released .ensures) }
+returns-2 c = let t = c .before .before .before in
+    λ s. record {
+      same = rw (t .before .before .before .v2 .given .1, t .withdraw .ensures, c .ready .ensures, c .before .released .ensures);
+    }
 
 returns-3 : tie.Need-returns-3
 returns-3 c = λ s. record { same = rw (c .before .v3 .given .1) }
@@ -33,6 +39,7 @@ carry-out-spec =
     (tie.spec
     enum-known-v
     enum-known-v-2
+    withdraw-requires
     released-requires
     ready-requires
     enum-known-v-3

@@ -1,21 +1,9 @@
 -- `enter_index` follows its rule: by the tests of the rule, which have the values that the branches show.
-use Prim.Native.Nat.{ℕ, _+_}
-use mathlib.Core.Bool.{Bool, true, false, cond}
-use mathlib.Core.List.{List}
-use mathlib.Core.Path.{_≡_, refl}
-use denote.Ref.{now}
-use lib.ListN.{getD, set}
-use lib.Seq.{set-getD}
 use borrow.Author.Tests.{eq-eqb, ne-eqb}
 use Rattle.model.specs.Rules.{enterIndex}
 use borrow.Author.Needs.{needs}
 use Rattle.rules.proofs.actions.enter_index.Statement.{statement}
 use Rattle.rules.proofs.actions.enter_index.Tie as tie
-
--- a remove stores the entry that is there
-entered : (put : Bool) (index : List ℕ) (key entry : ℕ) → set index key (cond put entry (getD index key 0)) ≡ cond put (set index key entry) index
-entered true index key entry = refl
-entered false index key entry = set-getD index key 0
 
 returns : tie.Need-returns
 unfolding enterIndex
@@ -47,8 +35,29 @@ returns-3 c = let t = c .before .before .before .before in
           rw (eq-eqb _ _ (t .before .before .before .if1 .left), ← t .before .names-other .ensures, t .if2 .left, ← n, c .if3 .taken);
     }
 
-entry-after-requires : tie.Need-entry-after-requires
-entry-after-requires c κs = search needs
+removes-unindexed-requires : tie.Need-removes-unindexed-requires
+removes-unindexed-requires c κs = search needs
+
+returns-4 : tie.Need-returns-4
+unfolding enterIndex
+returns-4 c = let t = c .before .before .before .before .before .before in
+    let n = c .before .before .before .names-other2 .ensures in
+    let r = c .before .removes-unindexed .ensures in
+    λ w s. record {
+      same =
+          rw (
+            eq-eqb _ _ (t .before .before .before .if1 .left),
+            ← t .before .names-other .ensures,
+            t .if2 .left,
+            ← n,
+            c .before .before .if3 .left,
+            ← r,
+            c .if4 .taken,
+          );
+    }
+
+add-index : tie.Need-add-index
+add-index c = search needs
 
 element-write-index : tie.Need-element-write-index
 element-write-index c = search needs
@@ -56,24 +65,30 @@ element-write-index c = search needs
 add-lock : tie.Need-add-lock
 add-lock c = search needs
 
+with-made-requires : tie.Need-with-made-requires
+with-made-requires c κs = search needs
+
 moved-requires : tie.Need-moved-requires
 moved-requires c κs = search needs
 
-returns-4 : tie.Need-returns-4
+returns-5 : tie.Need-returns-5
 unfolding enterIndex
-returns-4 c = let t = c .before .before .before .before .before .before in
-    let a = c .before .before .before .before .before .before .before .before .before .before .before in
+returns-5 c = let f = c .before .before .before in
+    let t = f .before .before .before .before .before .before in
+    let n = f .before .before .before .names-other2 .ensures in
+    let r = f .before .removes-unindexed .ensures in
     λ w s. record {
       same =
           rw (
             c .moved .ensures,
-            c .before .entry-after .ensures,
+            c .before .with-made .ensures,
             eq-eqb _ _ (t .before .before .before .if1 .left),
             ← t .before .names-other .ensures,
             t .if2 .left,
-            ← c .before .before .before .names-other2 .ensures,
-            c .before .before .if3 .left,
-            entered (a .args .x .put) (now (a .args .index)) (a .args .x .key) (a .args .x .group + 1),
+            ← n,
+            f .before .before .if3 .left,
+            ← r,
+            f .if4 .left,
           );
     }
 
@@ -88,8 +103,11 @@ enter-index-spec =
     element-copy-out-entry
     names-other-requires-2
     returns-3
-    entry-after-requires
+    removes-unindexed-requires
+    returns-4
+    add-index
     element-write-index
     add-lock
+    with-made-requires
     moved-requires
-    returns-4)
+    returns-5)
