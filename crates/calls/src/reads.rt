@@ -2,7 +2,6 @@
 use model::Table;
 use model::Value;
 use model::limits::ROWS;
-use model::limits::TIMESTAMPS;
 use scripts::instant;
 use scripts::point_read;
 use scripts::run_printed;
@@ -56,8 +55,8 @@ fn all_instants(t: Table) {
     instant(t, 6);
     instant(t, 7);
     instant(t, 8);
-    instant(t, TIMESTAMPS as u64);
-    instant(t, TIMESTAMPS as u64 + 1);
+    instant(t, 128);
+    instant(t, 129);
     instant(t, 259);
     instant(t, 4294967299);
     instant(t, u64::MAX);

@@ -73,7 +73,7 @@ module _ (x : Writer) (w : ℕ) (s : Shared) where
   accepts : {o : Outcome} → o .answer ≤ aborted → (w < writers → SharedRanged s → WriterRanged (s .last) x → OutcomeRanged (s .last) o) → Sound o
   accepts h k = record { answer = omega arith; refused = λ a. absurd (omega arith); kept = k }
 
-  -- the writer is ready again, the lock free if it held it, and the entry taken out that it made, unless it has committed
+  -- the writer is ready again, the lock free if it held it, and the entry that it made taken out, unless it has committed
   closes : {n : ℕ} {t : Shared} → n ≤ aborted → t .last ≡ s .last → (SharedRanged s → WriterRanged (s .last) x → SharedRanged t) → Sound (closed n x w t)
   closes h e k =
       accepts h

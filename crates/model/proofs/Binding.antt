@@ -1,6 +1,6 @@
 -- What binds a key.
 --     puts-on, puts-key    which operations are puts on a key
---     still-bound          what binds a key still does after a move of another writer, and after one of its own if the move says so
+--     still-bound          what binds a key still does after a move of writer w, if that is shown for w's own operation in progress
 use Prim.Native.Nat.{ℕ}
 use mathlib.Core.Path.{_≡_, refl, _∙_}
 use mathlib.Core.Logic.{_≢_, by-cases}

@@ -76,7 +76,7 @@ module _ (v : View) (w : ℕ) (i : Invariant v) where
   entry-stays k other =
       simp (cond-iff (λ (e : ℕ → ℕ). e k ≡ v .entry k)) (λ made. upd-other (v .entry) (v .writer w .key) 0 k (other made), λ _. refl)
 
-  -- and no other
+  -- an entry that is there afterwards was there before, and is such a one
   entry-left : (k : ℕ) → afterEnd v w .entry k ≢ 0 → (v .entry k ≢ 0) × NotOwn k
   entry-left k =
       simp (cond-iff (λ (e : ℕ → ℕ). e k ≢ 0 → (v .entry k ≢ 0) × NotOwn k)) (

@@ -133,8 +133,7 @@ module _ (v n : View) (w : ℕ) (x : Writer) (i : Invariant v) (m : Moved v n w 
               linked = rw (done, completed) (i .linked);
               above = λ s p. rw completed (i .above s (omega (arith, m .shared .last)));
               empty = λ g k. ap (λ (c : ℕ → Option ℕ). c k) (m .shared .cell 0 g (λ p. absurd (omega arith))) ∙ i .empty g k;
-              committed =
-                  λ s c e. committed-facts v n (m .shared) i s c (rw done at e);
+              committed = λ s c e. committed-facts v n (m .shared) i s c (rw done at e);
               bound = m .bound;
               writer = writer-facts;
               unique = timestamps-unique;

@@ -97,8 +97,7 @@ afterCommit v w p =
 
 -- writer w, whose record is x, goes on to its next phase: what its record, the lock, the index and the slices become
 pub data NextPhase (v : View) (w : ℕ) (x : Writer) : Writer → ℕ → (ℕ → ℕ) → (ℕ → ℕ → ℕ → Option ℕ) → (ℕ → ℕ → Option ℕ) → Type 0 where
-  looksUp : (g : ℕ) → x .phase ≡ 1
-      → NextPhase v w x (moved x 2 g (x .base)) (v .lock) (v .entry) (v .cell) (v .stored)
+  looksUp : (g : ℕ) → x .phase ≡ 1 → NextPhase v w x (moved x 2 g (x .base)) (v .lock) (v .entry) (v .cell) (v .stored)
   reads : (b : ℕ) → x .phase ≡ 2 → Newest (v .completed) (x .group) (v .last) b → b ≤ x .ts
       → NextPhase v w x (moved x 3 (x .group) b) (v .lock) (v .entry) (v .cell) (v .stored)
   writes : x .phase ≡ 3

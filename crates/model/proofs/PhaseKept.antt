@@ -135,7 +135,7 @@ module _ (v : View) (w : ℕ) (i : Invariant v) where
       (λ _.
       by-test made
       (λ m.
-      byPending w (p .pending) (p .is) (puts-on (p .pending .operation) (x .value) (p .key) (p .left ∙ (rw (new m .0))))
+      byPending w (p .pending) (p .is) (puts-on (p .pending .operation) (x .value) (p .key) (p .left ∙ rw (new m .0)))
       (rw (upd-same (v .writer) w y) m))
       (λ f. older (x .key) (λ none. omega (arith, found f))))
       (λ k ne. older k))

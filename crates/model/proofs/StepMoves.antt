@@ -12,7 +12,7 @@ use borrow.Author.Tests.{ne-eqb}
 use Rattle.model.specs.Limits.{writers, timestamps}
 use Rattle.model.specs.Answers.{taken, committed, aborted}
 use Rattle.common.specs.Counting.{upd}
-use Rattle.model.specs.State.{Shared, requested, inflight, completed, cell, ready}
+use Rattle.model.specs.State.{Shared, requested, inflight, cell, ready}
 use Rattle.model.specs.Range.{inRange}
 use Rattle.model.specs.Rules.{begun, moved, withdrawn, Verdict, carried, act, Answered, updated, stepTested, step}
 use Rattle.model.specs.Snapshot.{instantOf}

@@ -174,7 +174,7 @@ abbrev pub withdrawn : ℕ → Bool → ℕ → List ℕ → List ℕ
 withdrawn n made k index = cond (not (eqb n committed) && made) (set index k 0) index
 
 -- every operation ends here, committed or not: the lock is freed if held, the writer is ready, the instant stays (document 01, A writer's walk, end),
--- and the index entry is withdrawn that it made, unless it has committed
+-- and the index entry that it made is withdrawn, unless it has committed
 abbrev pub closed : ℕ → Writer → ℕ → Shared → Outcome
 closed n x w s = outcome n ready (withLock (withIndex s (withdrawn n (x .made) (x .key) (s .index))) (released (s .lock) w))
 

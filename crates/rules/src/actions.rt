@@ -274,7 +274,7 @@ fn removes_unindexed(put: bool, entry: u8) -> bool
 }
 
 // 5. Index: writer w takes the lock and enters its key, unless the lock is another writer's, the key another group's, or a remove's key no longer
-// indexed. It notes whether there was no entry yet.
+// indexed. It notes whether it has made the entry.
 fn enter_index(x: Writer, w: u8, lock: &mut u8, index: &mut [u8; KEYS]) -> Verdict
     requires { ⌜ (w < writers) × Bounds x ⌝ }
     ensures { λ r. ⌜ Follows x r (together (changing withLock lock) (changing withIndex index)) (rules.enterIndex x w) ⌝ }
@@ -389,7 +389,7 @@ fn withdraw(answer: u8, made: bool, key: u8, index: &mut [u8; KEYS])
 }
 
 // A verdict carried out for writer w. Every operation that ends or commits closes here: its writer is ready, the lock free if the writer held it,
-// and the index entry withdrawn that it made, unless it has committed.
+// and the index entry that it made withdrawn, unless it has committed.
 pub fn carry_out(v: Verdict, x: Writer, w: u8, lock: &mut u8, index: &mut [u8; KEYS]) -> Acted
     requires { ⌜ (w < writers) × Bounds x ⌝ }
     ensures { λ r. ⌜ CarriesOut x w v r (together (changing withLock lock) (changing withIndex index)) ⌝ }

@@ -11,8 +11,8 @@ use model::limits::TIMESTAMPS;
 use report::number;
 use report::text;
 
-// The last timestamp of all.
-const LAST: u8 = TIMESTAMPS as u8;
+// The last timestamp of all, as the papers have it.
+const LAST: u8 = 128;
 
 // What a search gave: the hit, or that there is none, and how many timestamps it looked at.
 fn print(found: Search) {

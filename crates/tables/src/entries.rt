@@ -44,8 +44,8 @@ fn made() -> Table {
     t
 }
 
-// Whoever ends without commit takes its key's entry out, whatever the entry names; a commit leaves it, and so do an index step that finds the
-// entry there and a start.
+// Whoever ends without commit takes its key's entry out, whatever the entry names. A commit leaves it, and so does who gives up after an index
+// step that found the entry there, or after a start.
 pub fn said_to_be_made() {
     let title = b"Writers that are said to have made an entry";
     let script = b"\

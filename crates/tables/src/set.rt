@@ -23,16 +23,9 @@ pub fn putting(phase: u8, key: u8, value: Value, group: u8, ts: u8, base: u8) ->
 
 // A writer with a remove.
 pub fn removing(phase: u8, key: u8, group: u8, ts: u8, base: u8) -> Writer {
-    Writer {
-        phase,
-        put: false,
-        made: false,
-        key,
-        group,
-        ts,
-        base,
-        value: 0,
-    }
+    let mut x = putting(phase, key, 0, group, ts, base);
+    x.put = false;
+    x
 }
 
 // A fresh table but for its last timestamp.

@@ -251,13 +251,19 @@ abbrev refusing : State
 refusing =
     withWriter (withWriter (table (withEntry (withLock (withInstants (replicate 128 requested)) 6) 0 2)) 1 (busy 1 0 0 1 0)) 2 (busy 4 0 0 2 0)
 
--- two timestamps are completed, writer 5 holds the lock, key 5 is indexed to group 3, and writer 0 is x
-abbrev holding : Writer → State
-holding x = withWriter (table (withEntry (withLock (withInstants (completed 0 ∷ completed 1 ∷ [])) 6) 5 4)) 0 x
+-- two timestamps are completed, key 5 is indexed to group 3, and writer 0 is x
+abbrev twoCompleted : ℕ → Writer → State
+twoCompleted lock x = withWriter (table (withEntry (withLock (withInstants (completed 0 ∷ completed 1 ∷ [])) lock) 5 4)) 0 x
 
--- the same, with the lock free
+-- there writer 5 holds the lock, or writer 0, or nobody
+abbrev holding : Writer → State
+holding = twoCompleted 6
+
+abbrev lockedItself : Writer → State
+lockedItself = twoCompleted 1
+
 abbrev unlocked : Writer → State
-unlocked x = record { shared = withLock (holding x .shared) 0; writers = holding x .writers }
+unlocked = twoCompleted 0
 
 -- n timestamps are issued, and every other number is the largest in range; one row is shown at timestamp 1
 abbrev atLargest : ℕ → State
@@ -431,6 +437,7 @@ traces =
     ∷ (stands (holding (busy 6 6 0 2 2)) (does 0 Commit ∷ []) 0 6 gives 2 ∷ 6 ∷ 0 ∷ readyNumbers)
     -- a start takes nothing over from the record of a ready writer
     ∷ (stands (holding (maker (busy 0 6 1 2 2))) (does 0 (Start (Put 5 55 3)) ∷ []) 0 5 gives 3 ∷ 6 ∷ 4 ∷ writerNumbers (busy 1 5 3 3 0))
+    ∷ (stands (holding (maker (busy 0 6 1 2 2))) (does 0 (Start (Remove 5)) ∷ []) 0 5 gives 3 ∷ 6 ∷ 4 ∷ writerNumbers (removing 1 5 0 3 0))
     -- a look up leaves the base, of a key that is indexed or not; a read at the writer's own timestamp is not too late; a check at the base is no change
     ∷ (stands (holding (busy 1 6 0 1 2)) (does 0 LookUp ∷ []) 0 6 gives 2 ∷ 6 ∷ 0 ∷ writerNumbers (busy 2 6 0 1 2))
     ∷ (stands (holding (busy 1 5 0 1 2)) (does 0 LookUp ∷ []) 0 5 gives 2 ∷ 6 ∷ 4 ∷ writerNumbers (busy 2 5 3 1 2))
@@ -490,23 +497,30 @@ traces =
     -- a put that looked it up keeps the group that it found, makes the entry again and commits there
     ∷ (stands fresh (lookedUp (Put 1 11 1) ++ does 1 Index ∷ []) 1 1 gives 2 ∷ 2 ∷ 1 ∷ writerNumbers (maker (putting 11 5 1 0 2 0)))
     ∷ (instants fresh (lookedUp (Put 1 11 1) ++ does 1 Index ∷ does 1 Check ∷ does 1 Commit ∷ []) (2 ∷ []) gives isCompleted 0)
-    -- the index step's refusal comes before its endings: 16, where 4 or 2 would come; a remove of another group's key ends with 4; a remove that ends
-    -- with 2 frees the lock that it holds
-    ∷ (answers (holding (busy 4 5 0 1 0)) (does 0 Index ∷ []) gives 16 ∷ [])
+    -- the index step is refused with 16 where it would end with 2 (and with 4: see the refusals below); a remove of another group's key ends with 4;
+    -- a writer that ends with 2 or 4 frees the lock that it holds
     ∷ (answers (holding (removing 4 6 0 1 0)) (does 0 Index ∷ []) gives 16 ∷ [])
     ∷ (answers (unlocked (removing 4 5 0 1 0)) (does 0 Index ∷ []) gives 4 ∷ [])
-    ∷ (stands (withWriter (table (withLock (withInstants (inflight 0 ∷ [])) 1)) 0 (removing 4 6 0 1 0)) (does 0 Index ∷ []) 0 6
-    gives 1 ∷ 0 ∷ 0 ∷ readyNumbers)
+    ∷ (stands (lockedItself (removing 4 6 0 1 0)) (does 0 Index ∷ []) 0 6 gives 2 ∷ 0 ∷ 0 ∷ readyNumbers)
+    ∷ (stands (lockedItself (busy 4 5 0 1 0)) (does 0 Index ∷ []) 0 5 gives 2 ∷ 0 ∷ 4 ∷ readyNumbers)
+    -- no later step asks whether a remove's key is indexed; a check leaves the flag
+    ∷ (stands (holding (maker (removing 5 6 1 1 2))) (does 0 Check ∷ []) 0 6 gives 2 ∷ 6 ∷ 0 ∷ writerNumbers (maker (removing 6 6 1 1 2)))
+    ∷ (answers (holding (removing 6 6 0 2 2)) (does 0 Commit ∷ []) gives 1 ∷ [])
     -- a writer that no steps have given its flag: an end without commit takes its key's entry out, at any phase and whatever the entry names (6, 3, 4
-    -- and 5); a look up and a refusal leave the flag, an index step that finds the entry clears it, and a commit leaves the entry
+    -- and 5); a look up and a refusal leave the flag, an index step sets it anew, and a commit leaves the entry, another group's too
     ∷ (stands (holding (maker (busy 1 5 0 1 0))) (does 0 Abort ∷ []) 0 5 gives 2 ∷ 6 ∷ 0 ∷ readyNumbers)
+    ∷ (stands (holding (maker (busy 3 5 0 1 0))) (does 0 Abort ∷ []) 0 5 gives 2 ∷ 6 ∷ 0 ∷ readyNumbers)
     ∷ (stands (holding (maker (busy 2 5 1 1 0))) (does 0 Read ∷ []) 0 5 gives 2 ∷ 6 ∷ 0 ∷ readyNumbers)
     ∷ (stands (unlocked (maker (busy 4 5 0 1 0))) (does 0 Index ∷ []) 0 5 gives 2 ∷ 0 ∷ 0 ∷ readyNumbers)
     ∷ (stands (holding (maker (removing 5 5 0 1 0))) (does 0 Check ∷ []) 0 5 gives 2 ∷ 6 ∷ 0 ∷ readyNumbers)
     ∷ (stands (holding (maker (busy 1 5 0 1 2))) (does 0 LookUp ∷ []) 0 5 gives 2 ∷ 6 ∷ 4 ∷ writerNumbers (maker (busy 2 5 3 1 2)))
+    ∷ (stands (holding (maker (busy 1 6 0 1 2))) (does 0 LookUp ∷ []) 0 6 gives 2 ∷ 6 ∷ 0 ∷ writerNumbers (maker (busy 2 6 0 1 2)))
     ∷ (stands (holding (maker (busy 4 5 3 1 0))) (does 0 Index ∷ []) 0 5 gives 2 ∷ 6 ∷ 4 ∷ writerNumbers (maker (busy 4 5 3 1 0)))
     ∷ (stands (unlocked (maker (busy 4 5 3 1 0))) (does 0 Index ∷ []) 0 5 gives 2 ∷ 1 ∷ 4 ∷ writerNumbers (busy 5 5 3 1 0))
-    ∷ (stands (holding (maker (busy 6 5 3 2 2))) (does 0 Commit ∷ []) 0 5 gives 2 ∷ 6 ∷ 4 ∷ readyNumbers)
+    ∷ (stands (unlocked (maker (removing 4 5 3 1 0))) (does 0 Index ∷ []) 0 5 gives 2 ∷ 1 ∷ 4 ∷ writerNumbers (removing 5 5 3 1 0))
+    ∷ (stands (unlocked (maker (busy 4 6 0 1 0))) (does 0 Index ∷ []) 0 6 gives 2 ∷ 1 ∷ 1 ∷ writerNumbers (maker (busy 5 6 0 1 0)))
+    ∷ (stands (holding (maker (busy 6 5 0 2 2))) (does 0 Commit ∷ []) 0 5 gives 2 ∷ 6 ∷ 4 ∷ readyNumbers)
+    ∷ (answers (holding (maker (busy 6 5 0 2 2))) (does 0 Commit ∷ []) gives 1 ∷ [])
     -- the actions at each phase: start, look up, read, write, index, check, commit, abort
     ∷ (eachAnswer (atPhase 0) gives 0 ∷ 14 ∷ 14 ∷ 14 ∷ 14 ∷ 14 ∷ 14 ∷ 14 ∷ [])
     ∷ (eachAnswer (atPhase 1) gives 14 ∷ 0 ∷ 14 ∷ 14 ∷ 14 ∷ 14 ∷ 14 ∷ 6 ∷ [])
