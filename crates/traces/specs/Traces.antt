@@ -259,8 +259,8 @@ twoCompleted lock x = withWriter (table (withEntry (withLock (withInstants (comp
 abbrev holding : Writer → State
 holding = twoCompleted 6
 
-abbrev lockedItself : Writer → State
-lockedItself = twoCompleted 1
+abbrev ownLock : Writer → State
+ownLock = twoCompleted 1
 
 abbrev unlocked : Writer → State
 unlocked = twoCompleted 0
@@ -501,13 +501,13 @@ traces =
     -- a writer that ends with 2 or 4 frees the lock that it holds
     ∷ (answers (holding (removing 4 6 0 1 0)) (does 0 Index ∷ []) gives 16 ∷ [])
     ∷ (answers (unlocked (removing 4 5 0 1 0)) (does 0 Index ∷ []) gives 4 ∷ [])
-    ∷ (stands (lockedItself (removing 4 6 0 1 0)) (does 0 Index ∷ []) 0 6 gives 2 ∷ 0 ∷ 0 ∷ readyNumbers)
-    ∷ (stands (lockedItself (busy 4 5 0 1 0)) (does 0 Index ∷ []) 0 5 gives 2 ∷ 0 ∷ 4 ∷ readyNumbers)
+    ∷ (stands (ownLock (removing 4 6 0 1 0)) (does 0 Index ∷ []) 0 6 gives 2 ∷ 0 ∷ 0 ∷ readyNumbers)
+    ∷ (stands (ownLock (busy 4 5 0 1 0)) (does 0 Index ∷ []) 0 5 gives 2 ∷ 0 ∷ 4 ∷ readyNumbers)
     -- no later step asks whether a remove's key is indexed; a check leaves the flag
     ∷ (stands (holding (maker (removing 5 6 1 1 2))) (does 0 Check ∷ []) 0 6 gives 2 ∷ 6 ∷ 0 ∷ writerNumbers (maker (removing 6 6 1 1 2)))
     ∷ (answers (holding (removing 6 6 0 2 2)) (does 0 Commit ∷ []) gives 1 ∷ [])
     -- a writer that no steps have given its flag: an end without commit takes its key's entry out, at any phase and whatever the entry names (6, 3, 4
-    -- and 5); a look up and a refusal leave the flag, an index step sets it anew, and a commit leaves the entry, another group's too
+    -- and 5); a look up, a read, a write and a refusal leave the flag, an index step sets it anew, and a commit leaves the entry, another group's too
     ∷ (stands (holding (maker (busy 1 5 0 1 0))) (does 0 Abort ∷ []) 0 5 gives 2 ∷ 6 ∷ 0 ∷ readyNumbers)
     ∷ (stands (holding (maker (busy 3 5 0 1 0))) (does 0 Abort ∷ []) 0 5 gives 2 ∷ 6 ∷ 0 ∷ readyNumbers)
     ∷ (stands (holding (maker (busy 2 5 1 1 0))) (does 0 Read ∷ []) 0 5 gives 2 ∷ 6 ∷ 0 ∷ readyNumbers)
@@ -515,6 +515,7 @@ traces =
     ∷ (stands (holding (maker (removing 5 5 0 1 0))) (does 0 Check ∷ []) 0 5 gives 2 ∷ 6 ∷ 0 ∷ readyNumbers)
     ∷ (stands (holding (maker (busy 1 5 0 1 2))) (does 0 LookUp ∷ []) 0 5 gives 2 ∷ 6 ∷ 4 ∷ writerNumbers (maker (busy 2 5 3 1 2)))
     ∷ (stands (holding (maker (busy 1 6 0 1 2))) (does 0 LookUp ∷ []) 0 6 gives 2 ∷ 6 ∷ 0 ∷ writerNumbers (maker (busy 2 6 0 1 2)))
+    ∷ (stands (holding (maker (busy 2 6 0 1 0))) (does 0 Read ∷ does 0 Write ∷ []) 0 6 gives 2 ∷ 6 ∷ 0 ∷ writerNumbers (maker (busy 4 6 0 1 1)))
     ∷ (stands (holding (maker (busy 4 5 3 1 0))) (does 0 Index ∷ []) 0 5 gives 2 ∷ 6 ∷ 4 ∷ writerNumbers (maker (busy 4 5 3 1 0)))
     ∷ (stands (unlocked (maker (busy 4 5 3 1 0))) (does 0 Index ∷ []) 0 5 gives 2 ∷ 1 ∷ 4 ∷ writerNumbers (busy 5 5 3 1 0))
     ∷ (stands (unlocked (maker (removing 4 5 3 1 0))) (does 0 Index ∷ []) 0 5 gives 2 ∷ 1 ∷ 4 ∷ writerNumbers (removing 5 5 3 1 0))
