@@ -1,19 +1,23 @@
 #!/usr/bin/env python3
-"""Write a corpus of step logs and what the program prints for each.
+"""Write a corpus of step logs and what is printed for each.
 
-    python3 tests/model/make_corpus.py STDIN STDOUT HISTOGRAM
+    python3 tests/model/make_corpus.py MODE STDIN STDOUT HISTOGRAM
 
-STDIN gets each log as a 4-byte little-endian length and the log's bytes.
-STDOUT gets for each log the line ``log I``, counted from 0, and the program's
-text for it. HISTOGRAM gets Markdown tables of the answers and stops that occur
-and of the logs. The files are the same in every run.
+MODE is ``optimistic`` or ``pessimistic``, the mode of the tables on which the
+logs are run. STDIN gets each log as a 4-byte little-endian length and the log's
+bytes. STDOUT gets for each log the line ``log I``, counted from 0, and its
+text. HISTOGRAM gets Markdown tables of the answers and stops that occur and of
+the logs. The files are the same in every run.
 
 Every log but the one that is too long is also run step by step against the
 papers' own claims: the scan lists what the history says, no key stands in the
 committed slices of two groups, the listing at a stable timestamp stays
 whatever steps follow (demand 3), the steps coded again give the log's bytes
-(demand 2), no row has the erased word as its value (Q-3), and every index entry
-is that of a committed put or of a put in progress that made it (Q-4).
+(demand 2), no row has the erased word as its value (Q-3), every index entry
+is that of a committed put or of a put in progress that made it (Q-4), and the
+locks are those that the mode gives to the writers in progress: in a pessimistic
+table two writers past their read steps have different groups, and none is at
+phase 5 (Q-9).
 """
 
 from __future__ import annotations
@@ -38,6 +42,7 @@ from table_model import (
     Action,
     Answer,
     History,
+    Mode,
     Phase,
     Put,
     Remove,
@@ -91,8 +96,9 @@ class Profile:
 
     The first ``writers`` writers take part. A walk goes on with the same
     writer with chance ``same_writer``; if ``uneven``, writers with high
-    numbers come seldom. A writer that would meet a held lock tries
-    nevertheless with chance ``stall``, else the holder goes on. A step fits
+    numbers come seldom. A writer that would meet a held lock, the table's or
+    its group's, tries nevertheless with chance ``stall``, else the holder goes
+    on. A step fits
     the writer's phase with chance ``fit``, and gives up with chance
     ``give_up``. Successive starts share a key while ``starts_per_key``
     timestamps are issued, or draw their keys if it is 0. Numbers out of range
@@ -153,6 +159,16 @@ def random_operation(draw: Draw, table: Table, profile: Profile) -> Put | Remove
     return Put(key, draw.among(profile.values), group)
 
 
+def lock_holder(table: Table, writer: int) -> int | None:
+    """Who holds the lock that the writer's next step takes."""
+    match table.mode, table.writers[writer].phase:
+        case Mode.OPTIMISTIC, Phase.INDEX:
+            return table.lock
+        case Mode.PESSIMISTIC, Phase.READ:
+            return table.group_locks.get(table.writers[writer].group)
+    return None
+
+
 def random_step(draw: Draw, table: Table, profile: Profile, writer: int) -> Step:
     """A step after one by this writer."""
     if not draw.chance(profile.same_writer):
@@ -164,11 +180,10 @@ def random_step(draw: Draw, table: Table, profile: Profile, writer: int) -> Step
         return Step(writer, draw.among([Remove(0), *Action]))
     if draw.chance(profile.give_up):
         return Step(writer, Action.GIVE_UP)
+    holder = lock_holder(table, writer)
+    if holder is not None and not draw.chance(profile.stall):
+        writer = holder
     phase = table.writers[writer].phase
-    if phase == Phase.INDEX and table.lock is not None:
-        if not draw.chance(profile.stall):
-            writer = table.lock
-            phase = table.writers[writer].phase
     if not draw.chance(profile.fit):
         phase = draw.among(list(Phase))
     if phase == Phase.READY:
@@ -180,12 +195,10 @@ def walk(
     draw: Draw,
     profile: Profile,
     length: int,
+    table: Table,
     until: Callable[[Table], bool] = lambda table: False,
-    table: Table | None = None,
 ) -> Iterator[Step]:
-    """Random steps, each taken on the table (by default a fresh one)."""
-    if table is None:
-        table = Table()
+    """Random steps, each taken on the table."""
     writer = 0
     for _ in range(length):
         if until(table):
@@ -199,9 +212,13 @@ def walk(
 # --- The logs ----------------------------------------------------------------
 
 
-def operation_steps(writer: int, operation: Put | Remove) -> list[Step]:
-    """All steps of one operation that commits."""
+def operation_steps(
+    writer: int, operation: Put | Remove, mode: Mode = Mode.OPTIMISTIC
+) -> list[Step]:
+    """All steps of one operation that commits; a pessimistic one has no check."""
     actions = [action for action in Action if action is not Action.GIVE_UP]
+    if mode is Mode.PESSIMISTIC:
+        actions.remove(Action.CHECK)
     return [Step(writer, operation), *(Step(writer, action) for action in actions)]
 
 
@@ -234,12 +251,12 @@ def trace_logs() -> Iterator[bytes]:
     yield encode(pair * (MAX_TIMESTAMP + 1))
 
 
-def remove_logs() -> Iterator[bytes]:
+def remove_logs(mode: Mode) -> Iterator[bytes]:
     """A remove keeps the index entry, also for a put with an earlier timestamp."""
-    first = operation_steps(0, Put(1, 10, 1))
-    early = operation_steps(1, Put(1, 11, 2))
-    remove = operation_steps(2, Remove(1))
-    again = operation_steps(3, Put(1, 12, 3))
+    first = operation_steps(0, Put(1, 10, 1), mode)
+    early = operation_steps(1, Put(1, 11, 2), mode)
+    remove = operation_steps(2, Remove(1), mode)
+    again = operation_steps(3, Put(1, 12, 3), mode)
     yield encode([*first, *remove, *again])
     yield encode([*first, early[0], *remove, *early[1:]])
     yield encode([early[0], *first, *remove, *early[1:]])
@@ -288,8 +305,10 @@ def withdrawn_logs() -> Iterator[bytes]:
         yield encode([*waiting, later[4], *other[5:], *later[4:], *later])
 
 
-def refusal_logs() -> Iterator[bytes]:
-    """The first refusal that applies is given: 10, 12, 13, 18, 14, 15, 16."""
+def refusal_logs(mode: Mode) -> Iterator[bytes]:
+    """The first refusal that applies is given: 10, 12, 13, 18, 14, 15, then 16 or,
+    in the pessimistic mode, 19.
+    """
     starts = [
         Step(writer, operation)
         for writer in (0, 1, WRITERS, 2**32, MAX_NUMBER)
@@ -307,8 +326,11 @@ def refusal_logs() -> Iterator[bytes]:
         )
     ]
     actions = [Step(writer, action) for writer in (1, 2, WRITERS) for action in Action]
-    locked = operation_steps(0, Put(1, 10, 1))[:5]
-    waiting = operation_steps(1, Put(2, 20, 2))[:5]
+    locked = operation_steps(0, Put(1, 10, 1), mode)[:5]
+    if mode is Mode.OPTIMISTIC:
+        waiting = operation_steps(1, Put(2, 20, 2))[:5]
+    else:
+        waiting = operation_steps(1, Put(2, 20, 1))[:3]
     issued = [Step(2, Remove(31)), Step(2, Action.GIVE_UP)] * MAX_TIMESTAMP
     last = [
         Step(2, Put(31, ERASED_WORD, 7)),
@@ -322,12 +344,12 @@ def refusal_logs() -> Iterator[bytes]:
     yield encode([*locked, *waiting, *issued, *starts, *actions, *last])
 
 
-def erased_logs() -> Iterator[bytes]:
+def erased_logs(mode: Mode) -> Iterator[bytes]:
     """A put of the erased word is refused at its start and changes nothing, whatever
     its writer has in progress; the value below it is put, and the largest of 32 bits.
     """
     erased, below, narrow = (
-        operation_steps(0, Put(1, value, 1))
+        operation_steps(0, Put(1, value, 1), mode)
         for value in (ERASED_WORD, ERASED_WORD - 1, 2**32 - 1)
     )
     yield encode([*erased, *below, *erased])
@@ -336,29 +358,31 @@ def erased_logs() -> Iterator[bytes]:
         yield encode([*below[:taken], erased[0], *below[taken:]])
 
 
-def walk_logs(draw: Draw) -> Iterator[bytes]:
+def walk_logs(draw: Draw, mode: Mode) -> Iterator[bytes]:
     """Walks of 50 to 800 steps by four, eight and all sixteen writers."""
     for profile in PROFILES:
         for length, writers in ((50, 4), (150, 8), (800, WRITERS)):
-            yield encode(walk(draw, replace(profile, writers=writers), length))
+            walking = replace(profile, writers=writers)
+            yield encode(walk(draw, walking, length, Table(mode=mode)))
 
 
-def exhausting_logs(draw: Draw) -> Iterator[bytes]:
+def exhausting_logs(draw: Draw, mode: Mode) -> Iterator[bytes]:
     """Walks that use up the timestamps, and 40 steps more."""
 
     def exhausted(table: Table) -> bool:
         return table.last_timestamp == MAX_TIMESTAMP
 
     for profile in (ALL_KEYS, SHORT_LIVED, REMOVES, NEW_KEYS, DISORDER, WILD):
-        table = Table()
-        steps = list(walk(draw, profile, 4000, exhausted, table))
+        table = Table(mode=mode)
+        steps = list(walk(draw, profile, 4000, table, exhausted))
         require(exhausted(table), "timestamps left")
-        yield encode([*steps, *walk(draw, profile, 40, table=table)])
+        yield encode([*steps, *walk(draw, profile, 40, table)])
 
 
-def prefix_logs(draw: Draw) -> Iterator[bytes]:
+def prefix_logs(draw: Draw, mode: Mode) -> Iterator[bytes]:
     """One walk, ended after ever more of its steps."""
-    steps = list(walk(draw, replace(ALL_KEYS, keys=range(6)), 240))
+    profile = replace(ALL_KEYS, keys=range(6))
+    steps = list(walk(draw, profile, 240, Table(mode=mode)))
     for length in range(30, 241, 30):
         yield encode(steps[:length])
 
@@ -368,7 +392,9 @@ def stop_logs(draw: Draw) -> Iterator[bytes]:
     numbers = (300, 1, 16_384, MAX_NUMBER, 128)
     record = [encode_number(number) for number in numbers]
     whole = b"".join(record)
-    good = [encode(walk(draw, ALL_KEYS, 10 + draw.below(20))) for _ in range(5)]
+    good = [
+        encode(walk(draw, ALL_KEYS, 10 + draw.below(20), Table())) for _ in range(5)
+    ]
 
     for length in range(1, len(whole)):
         yield good[0] + whole[:length]
@@ -413,7 +439,8 @@ def noise_logs(draw: Draw) -> Iterator[bytes]:
 def damaged_logs(draw: Draw) -> Iterator[bytes]:
     """Walks with a byte changed, inserted or removed, or cut anywhere."""
     for damage in ("change", "insert", "remove", "cut") * 4:
-        log = encode(walk(draw, draw.among(PROFILES), 150 + draw.below(100)))
+        profile = draw.among(PROFILES)
+        log = encode(walk(draw, profile, 150 + draw.below(100), Table()))
         place = len(log) // 4 + draw.below(3 * len(log) // 4)
         head, tail = log[:place], log[place:]
         match damage:
@@ -434,7 +461,7 @@ def size_logs(draw: Draw) -> Iterator[bytes]:
         Step(draw.below(WRITERS), draw.among(actions)) for _ in range(MAX_INPUT // 2)
     )
     yield encode(shortest)
-    log = encode(walk(draw, ALL_KEYS, 800))
+    log = encode(walk(draw, ALL_KEYS, 800, Table()))
     longest = encode_step(LONGEST)
     log += longest * ((MAX_INPUT - 10 - len(log)) // len(longest))
     if len(log) % 2 == 1:
@@ -444,26 +471,191 @@ def size_logs(draw: Draw) -> Iterator[bytes]:
     yield log + b"\x00"
 
 
-def families() -> list[tuple[str, list[bytes]]]:
-    draw = Draw(SEED)
-    return [
-        ("document 01's example, empty log, one record, P5 to P10", list(trace_logs())),
-        ("puts after removes", list(remove_logs())),
-        ("the lock freed", list(lock_logs())),
-        ("index entries taken out again", list(withdrawn_logs())),
-        ("refusals", list(refusal_logs())),
-        ("puts of the erased word", list(erased_logs())),
-        ("random walks by four, eight and sixteen writers", list(walk_logs(draw))),
-        ("random walks that use up the timestamps", list(exhausting_logs(draw))),
-        ("one random walk, ended at ever later steps", list(prefix_logs(draw))),
-        ("each stop but 24", list(stop_logs(draw))),
-        ("noise", list(noise_logs(draw))),
-        ("random walks damaged by a byte, or cut", list(damaged_logs(draw))),
-        ("32,768 bytes, and 32,769", list(size_logs(draw))),
+def pessimistic_put(writer: int, key: int, value: int, group: int) -> list[Step]:
+    return operation_steps(writer, Put(key, value, group), Mode.PESSIMISTIC)
+
+
+def waiting_logs() -> Iterator[bytes]:
+    """P5, P6, P7 and P10 in a pessimistic table: a read waits for its group's lock, and
+    goes on when it is free.
+    """
+    put = pessimistic_put
+    one, two = put(0, 0, 10, 0), put(1, 1, 20, 0)
+    yield encode([*one[:3], *two[:3], *one[3:], *two[2:]])  # P5
+    yield encode([*one[:2], *two[:3], *one[2:], *two[3:], *one[2:]])  # 1 reads first
+    for taken in range(3, len(one)):
+        yield encode([*one[:taken], *two, *one[taken:], *two[2:]])
+    one, two = put(0, 1, 10, 0), put(1, 1, 20, 1)
+    yield encode([*one[:2], *two[:2], *one[2:], *two[2:]])  # P6
+    yield encode([*one[:4], *two[:4], one[4], two[4], *one[5:], *two])
+    one, two, three = (put(writer, 5, 10 + writer, 4) for writer in range(3))
+    yield encode([*one, two[0], *three, *two[1:], *two])  # P7
+    yield encode([*one, *two[:3], *three[:3], *two[3:], *three[2:]])
+    yield encode([*one, *three[:3], *two[:3], *three[3:], *two[2:]])
+    one, two = put(0, 1, 10, 1), put(0, 2, 20, 2)
+    three, four = put(3, 1, 11, 1), put(4, 2, 21, 2)
+    yield encode([*one, *two, three[0], *four, *three[1:]])  # P10
+
+
+def check_logs() -> Iterator[bytes]:
+    """A check step is refused at every phase of a pessimistic table."""
+    steps = pessimistic_put(0, 1, 10, 1)
+    refused, end = Step(0, Action.CHECK), Step(0, Action.GIVE_UP)
+    yield encode([refused, *(each for step in steps for each in (step, refused))])
+    for taken in range(1, len(steps)):
+        yield encode([*steps[:taken], refused, end, refused, *steps])
+
+
+def group_lock_logs() -> Iterator[bytes]:
+    """A group's lock is freed by a commit and by every end, and by nothing else."""
+    put = pessimistic_put
+    one, two, apart = put(0, 1, 10, 1), put(1, 2, 20, 1), put(2, 3, 30, 2)
+    give_up = [Step(0, Action.GIVE_UP)]
+    for taken in range(3, len(one)):
+        for freed in (one[taken:], give_up):
+            yield encode([*one[:taken], *two[:3], *apart, *freed, *two[2:]])
+    # Too late: the lock is free at once.
+    yield encode([one[0], *two, *one[1:3], *put(3, 4, 40, 1)])
+    # The key belongs to another group.
+    elsewhere = put(3, 1, 11, 2)
+    yield encode([*elsewhere[:2], *one, *elsewhere[2:5], *apart])
+    # A remove whose key is no longer indexed.
+    remove = operation_steps(3, Remove(1), Mode.PESSIMISTIC)
+    yield encode([*one[:5], *remove[:3], *give_up, *remove[2:4], *two, remove[4], *two])
+    # Writer 0 stalls behind its read: nobody else reads in its group, others commit.
+    stalled = [*one[:3], *two[:3]]
+    for value in range(30, 35):
+        stalled += [*put(2, 3, value, 2), two[2]]
+    yield encode([*stalled, *one[3:], *two[2:]])
+    yield encode([*stalled, *give_up, *two[2:]])
+    # Each group's lock has its own holder, and one more writer waits for each.
+    holders = [put(group, group, 10 + group, group) for group in range(GROUPS)]
+    waiting = [
+        put(GROUPS + group, GROUPS + group, 20 + group, group)
+        for group in range(GROUPS)
     ]
+    begun = [step for steps in (*holders, *waiting) for step in steps[:3]]
+    freed = [
+        step
+        for held, waits in zip(holders, waiting)
+        for step in (*held[3:], *(other[2] for other in waiting), *waits[3:])
+    ]
+    yield encode([*begun, *freed])
+    yield encode([*begun, *freed[::-1], *freed])
+
+
+def pessimistic_withdrawn_logs() -> Iterator[bytes]:
+    """An index entry that an operation made is taken out again where it gives up, and
+    another group may have the key; an older entry stays (Q-4).
+    """
+
+    def given_up(writer: int) -> Step:
+        return Step(writer, Action.GIVE_UP)
+
+    def steps_of(writer: int, operation: Put | Remove) -> list[Step]:
+        return operation_steps(writer, operation, Mode.PESSIMISTIC)
+
+    made, other = steps_of(0, Put(1, 10, 0)), steps_of(1, Put(2, 20, 0))
+    proposing, remove = steps_of(2, Put(1, 11, 1)), steps_of(3, Remove(1))
+    for taken in range(1, len(made)):
+        yield encode([*made[:taken], given_up(0), *proposing])
+        yield encode([*made, *proposing[:taken], given_up(2), *remove])
+        yield encode([*made, *remove[:taken], given_up(3), *proposing])
+    # A remove, and a put, that looked up an entry which is then taken out.
+    for later in (remove, proposing):
+        waiting = [*made[:5], *later[:3]]
+        yield encode([*waiting, given_up(0), *later[2:], *other])
+        yield encode([*waiting, given_up(0), *later[2:4], *other, *later[4:], *other])
+        yield encode([*waiting, given_up(0), *steps_of(4, Put(1, 12, 5)), *later[2:]])
+    # One key, two groups: both have written when the first one enters the key.
+    for taken in range(2, 5):
+        both = [*made[:4], *proposing[:taken]]
+        yield encode([*both, made[4], *proposing[taken:5], made[5], *proposing])
+        yield encode([*both, made[4], given_up(0), *proposing[taken:], *made])
+
+
+def crowded_logs(draw: Draw) -> Iterator[bytes]:
+    """Sixteen writers in turn, on few groups and keys."""
+    for keys, groups, starts_per_key in (
+        (range(2), (5,), 0),
+        (range(3), (0, 7), 0),
+        (range(4), range(3), 0),
+        (range(KEYS), range(4), 4),
+        (range(KEYS), range(GROUPS), 8),
+    ):
+        for stall in (0.1, 0.5, 1.0):
+            profile = Profile(
+                keys,
+                groups,
+                same_writer=0.1,
+                stall=stall,
+                starts_per_key=starts_per_key,
+            )
+            yield encode(walk(draw, profile, 500, Table(mode=Mode.PESSIMISTIC)))
+
+
+def pessimistic_stop_logs(draw: Draw) -> Iterator[bytes]:
+    """Each stop but 24 behind some good records."""
+    for damage in ("00", "00 01 01", "80 00 03", "FF " * 9 + "02", "00 0A", "00 00"):
+        steps = walk(draw, ALL_KEYS, 30 + draw.below(30), Table(mode=Mode.PESSIMISTIC))
+        yield encode(steps) + bytes.fromhex(damage)
+
+
+Family = tuple[str, Iterator[bytes]]
+
+
+def shared_families(draw: Draw, mode: Mode) -> Iterator[Family]:
+    """Families of either mode that are drawn."""
+    title = "random walks by four, eight and sixteen writers"
+    yield title, walk_logs(draw, mode)
+    yield "random walks that use up the timestamps", exhausting_logs(draw, mode)
+    yield "one random walk, ended at ever later steps", prefix_logs(draw, mode)
+
+
+def optimistic_families() -> Iterator[Family]:
+    draw, mode = Draw(SEED), Mode.OPTIMISTIC
+    yield "document 01's example, empty log, one record, P5 to P10", trace_logs()
+    yield "puts after removes", remove_logs(mode)
+    yield "the lock freed", lock_logs()
+    yield "index entries taken out again", withdrawn_logs()
+    yield "refusals", refusal_logs(mode)
+    yield "puts of the erased word", erased_logs(mode)
+    yield from shared_families(draw, mode)
+    yield "each stop but 24", stop_logs(draw)
+    yield "noise", noise_logs(draw)
+    yield "random walks damaged by a byte, or cut", damaged_logs(draw)
+    yield "32,768 bytes, and 32,769", size_logs(draw)
+
+
+def pessimistic_families() -> Iterator[Family]:
+    draw, mode = Draw(SEED), Mode.PESSIMISTIC
+    yield "the bytes of the optimistic logs 0 to 13, with check steps", trace_logs()
+    yield "P5, P6, P7 and P10, without check steps", waiting_logs()
+    yield "check steps at each phase", check_logs()
+    yield "puts after removes", remove_logs(mode)
+    yield "locks per group: held, freed, stalled", group_lock_logs()
+    yield "index entries taken out again", pessimistic_withdrawn_logs()
+    yield "refusals", refusal_logs(mode)
+    yield "puts of the erased word", erased_logs(mode)
+    yield from shared_families(draw, mode)
+    yield "sixteen writers in turn, on few groups and keys", crowded_logs(draw)
+    yield "each stop but 24", pessimistic_stop_logs(draw)
+
+
+FAMILIES = {
+    Mode.OPTIMISTIC: optimistic_families,
+    Mode.PESSIMISTIC: pessimistic_families,
+}
 
 
 # --- The papers' claims ------------------------------------------------------
+
+
+# Answers that never come in a table of the mode (Q-9).
+NEVER = {
+    Mode.OPTIMISTIC: (Answer.GROUP_LOCK_HELD,),
+    Mode.PESSIMISTIC: (Answer.GROUP_CHANGED, Answer.LOCK_HELD),
+}
 
 
 def require(claim: bool, message: str) -> None:
@@ -472,10 +664,12 @@ def require(claim: bool, message: str) -> None:
 
 
 class Checked:
-    """A table and its history, held to demand 3, Q-3 and Q-4 while steps are taken."""
+    """A table and its history, held to demand 3, Q-3, Q-4 and Q-9 while steps are
+    taken.
+    """
 
-    def __init__(self) -> None:
-        self.table = Table()
+    def __init__(self, mode: Mode) -> None:
+        self.table = Table(mode=mode)
         self.history = History()
         self.answers: list[Answer] = []
         self.stable: dict[int, list[Row]] = {}
@@ -490,6 +684,8 @@ class Checked:
                 self.check_rows(timestamp)
             self.note_stable()
             self.check_index()
+            self.check_locks()
+        require(answer not in NEVER[self.table.mode], f"answer {answer:d}")
         if answer == Answer.COMMITTED:
             self.check_groups()
 
@@ -522,6 +718,28 @@ class Checked:
         for operation, group in committed:
             require(self.table.index.get(operation.key) == group, "a committed entry")
 
+    def check_locks(self) -> None:
+        """An optimistic writer holds the table lock from its index step on; each
+        pessimistic one past its read step has a group of its own, and its lock.
+        """
+        table = self.table
+        numbered = list(enumerate(table.writers))
+        if table.mode is Mode.OPTIMISTIC:
+            past = [number for number, writer in numbered if writer.phase > Phase.INDEX]
+            held = [] if table.lock is None else [table.lock]
+            require(past == held, "table lock")
+            require(table.group_locks == {}, "a group's lock")
+            return
+        past = [
+            (writer.group, number)
+            for number, writer in numbered
+            if writer.phase > Phase.READ
+        ]
+        require(len(past) == len({group for group, _ in past}), "two in a group")
+        require(table.group_locks == dict(past), "locks of the groups")
+        require(table.lock is None, "table lock")
+        require(all(writer.phase != Phase.CHECK for _, writer in numbered), "phase 5")
+
     def check_groups(self) -> None:
         """No key stands in the committed slices of two groups."""
         group_of: dict[int, int] = {}
@@ -544,14 +762,14 @@ class Checked:
         """Check a copy on which random steps follow."""
         extension = copy.deepcopy(self)
         profile = draw.among(PROFILES)
-        for step in walk(draw, profile, 60, table=copy.deepcopy(self.table)):
+        for step in walk(draw, profile, 60, copy.deepcopy(self.table)):
             extension.step(step, [])
         extension.check_everywhere()
 
 
-def check(log: bytes, draw: Draw) -> tuple[list[Answer], Stop]:
+def check(log: bytes, mode: Mode, draw: Draw) -> tuple[list[Answer], Stop]:
     """Run a log against the claims; return its answers and stop."""
-    run = Checked()
+    run = Checked(mode)
     steps, stop, place = read_log(log)
     extend = 6 / (1 + len(log))
     for step in steps:
@@ -582,6 +800,7 @@ ANSWERS = {
     Answer.LOCK_HELD: "lock held by another",
     Answer.OUT_OF_RANGE: "table value out of range",
     Answer.VALUE_ERASED: "value is the erased word",
+    Answer.GROUP_LOCK_HELD: "group's lock held by another",
 }
 STOPS = {
     Stop.USED_UP: "input used up",
@@ -595,50 +814,53 @@ IMPOSSIBLE = {
     Answer.OUT_OF_RANGE: "cannot occur: the program's table starts fresh",
     Stop.NO_PLACE: "cannot occur: the program's buffer has room for every answer",
 }
-
-
 TOO_LONG = "too long"
 
 
-def histogram_rows(meanings: dict[int, str], counts: Counter) -> Iterator[str]:
+def histogram_rows(
+    meanings: dict[int, str], counts: Counter, impossible: dict[int, str]
+) -> Iterator[str]:
     """Table rows; fails if a number is missing, or an impossible one is there."""
     for number, meaning in meanings.items():
         occurs = counts[number] > 0
-        require(occurs != (number in IMPOSSIBLE), f"{number!r}: {counts[number]}")
-        count = IMPOSSIBLE.get(number, counts[number])
+        require(occurs != (number in impossible), f"{number!r}: {counts[number]}")
+        count = impossible.get(number, counts[number])
         yield f"| {number:d} | {meaning} | {count} |"
 
 
-def main(stdin: Path, stdout: Path, histogram: Path) -> None:
+def main(mode: Mode, stdin: Path, stdout: Path, histogram: Path) -> None:
     draw = Draw(SEED + 1)
+    never = dict.fromkeys(NEVER[mode], f"cannot occur: the table is {mode.value}")
     packed, printed = b"", ""
     answers, stops = Counter(), Counter()
     ranges = []
     number = 0
-    for family, logs in families():
+    for family, family_logs in FAMILIES[mode]():
+        logs = list(family_logs)
         ranges.append(f"| {number} to {number + len(logs) - 1} | {family} |")
         for log in logs:
-            text = program(log)
+            text = program(log, mode)
             packed += struct.pack("<I", len(log)) + log
             printed += f"log {number}\n{text}"
             number += 1
             if len(log) > MAX_INPUT:
                 stops[TOO_LONG] += 1
                 continue
-            log_answers, stop = check(log, draw)
+            log_answers, stop = check(log, mode, draw)
             lines = [*(f"{answer:d}" for answer in log_answers), f"stop {stop:d} at "]
             require(text.startswith("\n".join(lines)), f"text of log {number}")
             answers.update(log_answers)
             stops[stop] += 1
+    too_long = f"| none | only `too long` is printed | {stops[TOO_LONG]} |"
     report = [
         "| Answer | Meaning | Count |",
         "|---|---|---|",
-        *histogram_rows(ANSWERS, answers),
+        *histogram_rows(ANSWERS, answers, IMPOSSIBLE | never),
         "",
         "| Stop | Meaning | Count |",
         "|---|---|---|",
-        *histogram_rows(STOPS, stops),
-        f"| none | only `too long` is printed | {stops[TOO_LONG]} |",
+        *histogram_rows(STOPS, stops, IMPOSSIBLE),
+        *([too_long] if stops[TOO_LONG] else []),
         "",
         "| Logs | What they are |",
         "|---|---|",
@@ -650,6 +872,6 @@ def main(stdin: Path, stdout: Path, histogram: Path) -> None:
 
 
 if __name__ == "__main__":
-    if len(sys.argv) != 4:
+    if len(sys.argv) != 5:
         sys.exit(__doc__)
-    main(*map(Path, sys.argv[1:]))
+    main(Mode(sys.argv[1]), *map(Path, sys.argv[2:]))

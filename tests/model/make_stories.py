@@ -31,6 +31,7 @@ from table_model import (
     Answer,
     Instant,
     Malformed,
+    Mode,
     Operation,
     Phase,
     Put,
@@ -78,6 +79,16 @@ def through(writer: int, operation: Operation, last: Action) -> list[Step]:
 def whole(writer: int, operation: Operation) -> list[Step]:
     """All steps of an operation that commits."""
     return through(writer, operation, COMMIT)
+
+
+def to_commit(writer: int, first: Action) -> list[Step]:
+    """A pessimistic writer's steps from one to its commit, without a check."""
+    return steps(writer, first, INDEX) + step(writer, COMMIT)
+
+
+def committing(writer: int, operation: Operation) -> list[Step]:
+    """All steps of an operation that commits in a pessimistic table."""
+    return step(writer, operation) + to_commit(writer, LOOK_UP)
 
 
 def log_of(piece: Sequence[Step] | bytes) -> bytes:
@@ -162,10 +173,12 @@ def played(table: Table, first: int, last: int, *pieces: Piece) -> Iterator[str]
             yield "-- step by step"
 
 
-def story(title: str, first: int, last: int, *pieces: Piece) -> Iterator[str]:
+def story(
+    title: str, first: int, last: int, *pieces: Piece, mode: Mode = Mode.OPTIMISTIC
+) -> Iterator[str]:
     """A script from a fresh table on."""
     yield f"== {title}"
-    yield from played(Table(), first, last, *pieces)
+    yield from played(Table(mode=mode), first, last, *pieces)
 
 
 # --- The program stories -----------------------------------------------------
@@ -433,6 +446,148 @@ def entries() -> Iterator[str]:
     )
 
 
+def pessimistic_story(
+    title: str, first: int, last: int, *pieces: Piece
+) -> Iterator[str]:
+    mode = Mode.PESSIMISTIC
+    yield from story(f"Locks per group: {title}", first, last, *pieces, mode=mode)
+
+
+def locks_per_group() -> Iterator[str]:
+    """Q-9: the pessimistic mode."""
+    yield from pessimistic_story(
+        "P5", 1, 2,
+        ("writer 0 has read", through(0, Put(0, 10, 0), READ)),
+        ("writer 1's read is refused", through(1, Put(1, 11, 0), READ)),
+        ("writer 0 commits", to_commit(0, WRITE)),
+        ("writer 1 reads, and commits", to_commit(1, READ)),
+    )
+    looked_up = [Step(0, Put(1, 10, 0)), Step(1, Put(1, 11, 1))]
+    looked_up += [Step(0, LOOK_UP), Step(1, LOOK_UP)]
+    yield from pessimistic_story(
+        "P6", 1, 3,
+        ("both have looked up", looked_up),
+        ("writer 0 commits", to_commit(0, READ)),
+        ("writer 1's index step", steps(1, READ, INDEX)),
+        ("writer 2 finds the lock free", committing(2, Put(2, 20, 1))),
+    )
+    yield from pessimistic_story(
+        "P7", 1, 4,
+        ("three have started", [Step(w, Put(1, 10 + w, 3)) for w in range(3)]),
+        ("timestamp 1 commits", to_commit(0, LOOK_UP)),
+        ("timestamp 3 commits", to_commit(2, LOOK_UP)),
+        ("timestamp 2 reads", steps(1, LOOK_UP, READ)),
+        ("writer 3 finds the lock free", committing(3, Put(2, 20, 3))),
+    )
+    yield from pessimistic_story(
+        "document 01's log", 1, 1,
+        ("its check step is refused", EXAMPLE),
+    )
+    checked = step(0, CHECK)
+    yield from pessimistic_story(
+        "a check step at each phase", 1, 1,
+        ("at phase 0", checked),
+        *(
+            (f"at phase {phase}", step(0, action) + checked)
+            for phase, action in (
+                (1, Put(1, 10, 1)),
+                (2, LOOK_UP),
+                (3, READ),
+                (4, WRITE),
+                (6, INDEX),
+            )
+        ),
+        ("at phase 0 again", step(0, COMMIT) + checked),
+    )
+    put = Put(1, 10, 3)
+    aborted = [[Step(0, put), Step(0, GIVE_UP)]]
+    for last in (LOOK_UP, READ, WRITE, INDEX):
+        aborted.append(through(0, put, last) + step(0, GIVE_UP))
+    free = through(1, Put(2, 20, 3), READ) + step(1, GIVE_UP)
+    yield from pessimistic_story(
+        "giving up", 1, 7,
+        ("at phases 1 and 2", sum(aborted[:2], [])),
+        ("at phase 3", aborted[2] + free),
+        ("at phase 4", aborted[3] + free),
+        ("at phase 6", aborted[4] + free),
+        ("key 1 is in no group", committing(2, Put(1, 11, 4))),
+    )
+    yield from pessimistic_story(
+        "a writer that stalls", 1, 4,
+        ("writer 0 has read", through(0, Put(1, 10, 3), READ)),
+        ("writer 1 waits", through(1, Put(2, 20, 3), READ)),
+        ("writer 2 commits in another group", committing(2, Put(3, 30, 4))),
+        ("writer 1 waits still", step(1, READ)),
+        ("writer 2 commits again", committing(2, Put(3, 31, 4))),
+        ("writer 1 waits still", step(1, READ)),
+        ("writer 0 commits", to_commit(0, WRITE)),
+        ("writer 1 commits", to_commit(1, READ)),
+    )
+    yield from pessimistic_story(
+        "the order of the refusals", 1, 3,
+        ("writer 0 has looked up", through(0, Put(1, 10, 3), LOOK_UP)),
+        ("writer 1 commits", committing(1, Put(2, 20, 3))),
+        ("writer 2 has read", through(2, Put(3, 30, 3), READ)),
+        ("10 and 14, not 19", [Step(WRITERS, READ), Step(1, READ), Step(2, READ)]),
+        ("19, not 3", step(0, READ)),
+        ("writer 2 gives up", step(2, GIVE_UP)),
+        ("3", step(0, READ)),
+    )
+    yield from pessimistic_story(
+        "index steps take no lock", 1, 2,
+        (
+            "both have written",
+            through(0, Put(1, 10, 0), WRITE) + through(1, Put(2, 20, 1), WRITE),
+        ),
+        ("both have indexed", [Step(0, INDEX), Step(1, INDEX)]),
+        ("both commit", [Step(1, COMMIT), Step(0, COMMIT)]),
+    )
+    yield from pessimistic_story(
+        "one key, two file groups, both past their reads", 1, 2,
+        (
+            "both have written",
+            through(0, Put(1, 10, 0), WRITE) + through(1, Put(1, 11, 1), WRITE),
+        ),
+        ("writer 1 has the key", [Step(1, INDEX), Step(0, INDEX)]),
+        ("writer 1 commits", step(1, COMMIT)),
+    )
+    reading = [through(w, Put(w, 10 + w, w), READ) for w in range(GROUPS)]
+    waiting = [through(15 - w, Put(15 - w, 20 + w, w), READ) for w in range(GROUPS)]
+    yield from pessimistic_story(
+        "a lock for each file group", 16, 16,
+        ("writers 0 to 7 have read", sum(reading, [])),
+        ("writers 15 to 8 wait", sum(waiting, [])),
+        ("writer 3 commits", to_commit(3, WRITE)),
+        ("writer 12 reads, and no other", [Step(w, READ) for w in range(15, 7, -1)]),
+        ("writer 7 gives up", step(7, GIVE_UP)),
+        ("writer 8 reads", step(8, READ)),
+    )
+    entered = ("writer 0 has entered key 1", through(0, Put(1, 10, 0), INDEX))
+    given_up = ("writer 0 gives up", step(0, GIVE_UP))
+    yield from pessimistic_story(
+        "a remove whose key is no longer indexed", 1, 3,
+        entered,
+        ("the remove waits", through(1, Remove(1), READ)),
+        given_up,
+        ("the remove ends", steps(1, READ, INDEX)),
+        ("key 2 is put in its group", committing(2, Put(2, 20, 0))),
+    )
+    yield from pessimistic_story(
+        "a remove whose key has gone to another group", 1, 3,
+        entered,
+        ("the remove has looked up", through(1, Remove(1), LOOK_UP)),
+        given_up,
+        ("key 1 is put in group 5", committing(2, Put(1, 11, 5))),
+        ("the remove ends", steps(1, READ, INDEX)),
+    )
+    yield from pessimistic_story(
+        "an entry that was there before", 2, 3,
+        ("key 1 is put in group 0", committing(0, Put(1, 10, 0))),
+        ("writer 1 gives up", through(1, Put(1, 11, 1), INDEX) + step(1, GIVE_UP)),
+        ("key 1 is still in group 0", committing(2, Put(1, 12, 2))),
+    )
+
+
 # --- The programs calls, encoding and reading --------------------------------
 
 
@@ -584,9 +739,9 @@ def table_of(
     writers: dict[int, Writer],
     slices: dict[tuple[int, int], dict[int, int]],
     index: dict[int, int] | None = None,
-    lock: int | None = None,
+    **fields,
 ) -> Table:
-    table = Table(last, timeline, slices, index or {}, lock)
+    table = Table(last, timeline, slices, index or {}, **fields)
     for number, writer in writers.items():
         table.writers[number] = writer
     return table
@@ -683,6 +838,8 @@ def hand_set() -> Iterator[str]:
         ("the lock is free", whole(3, put)),
     )
 
+    yield from locks_set_by_hand()
+
     yield "== Numbers that no steps give"
     table = table_of(
         5,
@@ -739,6 +896,125 @@ def hand_set() -> Iterator[str]:
     )
 
 
+def with_locks(table: Table, locks: Sequence[int | None]) -> Table:
+    """The table with these holders of the engine's eight locks: the first is the table
+    lock of an optimistic table; else they are those of the groups.
+    """
+    held = {place: holder for place, holder in enumerate(locks) if holder is not None}
+    lock = held.pop(0, None) if table.mode is Mode.OPTIMISTIC else None
+    return replace(table, lock=lock, group_locks=held)
+
+
+def locks_line(table: Table) -> str:
+    """The engine's eight locks, each 0 or the number of its holder plus 1."""
+    held = dict(table.group_locks)
+    if table.mode is Mode.OPTIMISTIC and table.lock is not None:
+        held[0] = table.lock
+    return numbers("locks:", [held.get(place, -1) + 1 for place in range(GROUPS)])
+
+
+def locks_set_by_hand() -> Iterator[str]:
+    """Locks that no steps give."""
+    yield "== A writer that holds two locks"
+    table = table_of(
+        3,
+        {1: inflight(2)},
+        {
+            0: Writer(Phase.COMMIT, Put(1, 11, 2), 1, 2),
+            1: Writer(Phase.READ, Put(2, 20, 2), 2, 2),
+            2: Writer(Phase.READ, Put(3, 30, 5), 3, 5),
+        },
+        {(2, 1): {1: 11}},
+        group_locks={2: 0, 5: 0},
+        mode=Mode.PESSIMISTIC,
+    )
+    yield from played(
+        table, 1, 3,
+        ("writers 1 and 2 wait", [Step(1, READ), Step(2, READ)]),
+        ("writer 0 commits", step(0, COMMIT)),
+        ("both locks are free", [Step(1, READ), Step(2, READ)]),
+        ("both commit", to_commit(1, WRITE) + to_commit(2, WRITE)),
+    )
+
+    yield "== A pessimistic writer at phase 5"
+    table = table_of(
+        2,
+        {1: inflight(2), 2: Instant(State.REQUESTED)},
+        {
+            0: Writer(Phase.CHECK, Put(1, 11, 2), 1, 2),
+            1: Writer(Phase.READ, Put(2, 20, 2), 2, 2),
+        },
+        {(2, 1): {1: 11}},
+        group_locks={2: 0},
+        mode=Mode.PESSIMISTIC,
+    )
+    yield from played(
+        table, 1, 2,
+        ("its check and its commit are refused", [Step(0, CHECK), Step(0, COMMIT)]),
+        ("writer 1 waits", step(1, READ)),
+        ("writer 0 gives up", step(0, GIVE_UP)),
+        ("writer 1 commits", to_commit(1, READ)),
+    )
+
+    yield "== Pessimistic writers and locks that no steps give"
+    table = table_of(
+        4,
+        {2: completed(4)},
+        {
+            0: Writer(Phase.READ, Put(1, 11, 2), 3, 2),
+            1: Writer(Phase.INDEX, Put(2, 21, 3), 4, 3),
+            2: Writer(Phase.READ, Put(3, 31, 4), 1, 4),
+        },
+        {(4, 2): {8: 80}, (3, 4): {2: 21}},
+        group_locks={2: 0, 3: 7, 4: 7},
+        mode=Mode.PESSIMISTIC,
+    )
+    yield from played(
+        table, 2, 4,
+        ("writer 0 holds its lock already", step(0, READ)),
+        ("writer 1's lock is another's", [Step(1, INDEX), Step(1, COMMIT)]),
+        ("writer 2 is too late, and waits", step(2, READ)),
+        ("the holder starts, and gives up", [Step(7, Remove(9)), Step(7, GIVE_UP)]),
+        ("writer 2 is too late", step(2, READ)),
+        ("writer 0 commits", to_commit(0, WRITE)),
+    )
+
+    put, remove = Put(1, 11, 4), Remove(9)
+    endings = (
+        ("commit", COMMIT, Writer(Phase.COMMIT, put, 1, 4)),
+        ("give up", GIVE_UP, Writer(Phase.WRITE, put, 1, 4)),
+        ("remove's look up", LOOK_UP, Writer(Phase.LOOK_UP, remove, 1, 4)),
+        ("remove's index step", INDEX, Writer(Phase.INDEX, remove, 1, 4)),
+        ("read", READ, Writer(Phase.READ, put, 1, 4)),
+        ("index step", INDEX, Writer(Phase.INDEX, Put(5, 50, 4), 1, 4)),
+        ("check", CHECK, Writer(Phase.CHECK, put, 1, 4)),
+    )
+    put = Put(1, 11, 5)
+    going_on = (
+        ("start", put, Writer()),
+        ("look up", LOOK_UP, Writer(Phase.LOOK_UP, put, 1, 5)),
+        ("read", READ, Writer(Phase.READ, put, 1, 5)),
+        ("write", WRITE, Writer(Phase.WRITE, put, 1, 5)),
+        ("index step", INDEX, Writer(Phase.INDEX, put, 1, 5)),
+        ("check", CHECK, Writer(Phase.CHECK, put, 1, 5)),
+    )
+    for mode in Mode:
+        for title, locks, steps in (
+            ("an ending: {}, the even locks are the writer's", [3, 7] * 4, endings),
+            ("an ending: {}, the odd locks are the writer's", [7, 3] * 4, endings),
+            ("an ending: {}, all locks are the writer's", [3] * 8, endings),
+            ("a step that goes on: {}", [3, *[None] * 5, 7, 3], going_on),
+        ):
+            yield f"== Locks of {title.format(mode.value)}"
+            for label, action, writer in steps:
+                timeline = {2: completed(4)}
+                table = table_of(2, timeline, {3: writer}, {}, {5: 6}, mode=mode)
+                for _ in ("as a log", "by advance"):
+                    here = with_locks(copy.deepcopy(table), locks)
+                    yield from ran(here, label, encode(step(3, action)), [0])[0]
+                    yield locks_line(here)
+
+
 def largest(last: int = MAX_TIMESTAMP) -> Table:
     """A table in range with every number at its largest."""
     group = GROUPS - 1
@@ -749,6 +1025,7 @@ def largest(last: int = MAX_TIMESTAMP) -> Table:
         {(group, MAX_TIMESTAMP): {KEYS - 1: MAX_NUMBER}},
         {key: group for key in range(KEYS)},
         WRITERS - 1,
+        {place: WRITERS - 1 for place in range(1, GROUPS)},
         [Writer(Phase.COMMIT, put, last, group, last, True) for _ in range(WRITERS)],
     )
 
@@ -770,6 +1047,12 @@ def grounds() -> Iterator[str]:
     def changed(**fields) -> Table:
         return replace(largest(), **fields)
 
+    def locked(mode: Mode, off: int | None) -> Table:
+        """Every lock held by the last writer, but for one that names no writer."""
+        places = range(GROUPS)
+        locks = [WRITERS if place == off else WRITERS - 1 for place in places]
+        return with_locks(changed(mode=mode), locks)
+
     def off(last: int = MAX_TIMESTAMP, **fields) -> Table:
         table = largest(last)
         table.writers[-1] = replace(table.writers[-1], **fields)
@@ -783,10 +1066,16 @@ def grounds() -> Iterator[str]:
     index = largest().index | {KEYS - 1: GROUPS}
     yield from tried("17: no ground", largest())
     yield from tried("17: last timestamp", changed(last_timestamp=MAX_TIMESTAMP + 1))
-    yield from tried("17: lock", changed(lock=WRITERS))
+    yield from tried("17: lock", locked(Mode.OPTIMISTIC, 0))
     yield from tried("17: index entry", changed(index=index))
     yield from tried("17: group of an instant", group_8)
     yield from tried("17: instant above the last timestamp", above)
+    for place in (3, 7):
+        yield from tried(f"17: lock {place}", locked(Mode.OPTIMISTIC, place))
+    yield from tried("17: no ground, pessimistic", locked(Mode.PESSIMISTIC, None))
+    for place in (0, 3, 7):
+        title = f"17: lock {place}, pessimistic"
+        yield from tried(title, locked(Mode.PESSIMISTIC, place))
     yield from tried("17: phase", off(phase=7))
     key = {"operation": put._replace(key=KEYS)}
     group = {"operation": put._replace(group=GROUPS), "group": GROUPS}
@@ -901,7 +1190,7 @@ def searches() -> Iterator[str]:
 
 
 PROGRAMS = {
-    "stories": (examples, traces, entries),
+    "stories": (examples, traces, entries, locks_per_group),
     "calls": (calls,),
     "encoding": (encoding,),
     "reading": (reading,),

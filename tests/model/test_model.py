@@ -11,13 +11,16 @@ import copy
 import random
 import unittest
 from collections.abc import Sequence
+from dataclasses import replace
 
 from make_corpus import PROFILES, Draw, walk
 from table_model import (
     ERASED_WORD,
+    GROUPS,
     MAX_INPUT,
     MAX_NUMBER,
     OLD_CODING,
+    WRITERS,
     Action,
     Answer,
     Committed,
@@ -25,6 +28,7 @@ from table_model import (
     Instant,
     LogWrite,
     Malformed,
+    Mode,
     Operation,
     Phase,
     Put,
@@ -78,10 +82,12 @@ def whole(writer: int, operation: Operation) -> list[Step]:
 
 
 class TableTest(unittest.TestCase):
-    """A fresh table and the steps taken on it."""
+    """A fresh table of a mode and the steps taken on it."""
+
+    MODE = Mode.OPTIMISTIC
 
     def setUp(self) -> None:
-        self.table = Table()
+        self.table = Table(mode=self.MODE)
 
     def take(self, *steps: Step) -> list[int]:
         return [int(self.table.step(step)) for step in steps]
@@ -451,6 +457,305 @@ class IndexEntries(TableTest):
                 self.assertEqual(self.table.index, {1: 7})
 
 
+def committing(writer: int, operation: Operation | None = None) -> list[Step]:
+    """A pessimistic writer's steps to its commit, from the operation's start or from
+    the look up; there is no check among them.
+    """
+    return through(writer, INDEX, operation) + [Step(writer, COMMIT)]
+
+
+class PessimisticTest(TableTest):
+    """A fresh pessimistic table and the steps taken on it."""
+
+    MODE = Mode.PESSIMISTIC
+
+    def commit_from(self, writer: int, first: Action) -> list[int]:
+        """The answers to a writer's steps from one to its commit."""
+        return self.take(*between(writer, first, INDEX), Step(writer, COMMIT))
+
+
+class LocksPerGroup(PessimisticTest):
+    """Document 02's Q-9."""
+
+    def test_p5(self) -> None:
+        """The second read waits, and finds what the first writer committed."""
+        self.take(*through(0, READ, Put(0, 10, 0)))
+        self.assert_last(19, through(1, READ, Put(1, 20, 0)))
+        self.assertEqual(self.commit_from(0, WRITE), [0, 0, 1])
+        self.assertEqual(self.take(Step(1, READ)), [0])
+        self.assertEqual(self.table.writers[1].base, 1)
+        self.assertEqual(self.commit_from(1, WRITE), [0, 0, 1])
+        self.assert_rows(1, (0, 10, 0))
+        self.assert_rows(2, (0, 10, 0), (1, 20, 0))
+
+    def test_p6(self) -> None:
+        self.take(*through(0, LOOK_UP, Put(1, 10, 0)))
+        self.take(*through(1, LOOK_UP, Put(1, 20, 1)))
+        self.assertEqual(self.commit_from(0, READ), [0, 0, 0, 1])
+        self.assert_last(4, between(1, READ, INDEX))
+        self.assert_rows(2, (1, 10, 0))
+        self.assertEqual(self.table.group_locks, {})
+
+    def test_p6_with_both_past_the_read(self) -> None:
+        self.take(*through(0, WRITE, Put(1, 10, 0)), *through(1, WRITE, Put(1, 20, 1)))
+        self.assertEqual(self.take(Step(0, INDEX), Step(1, INDEX)), [0, 4])
+        self.assertEqual(self.table.group_locks, {0: 0})
+        self.assertEqual(self.take(Step(0, COMMIT)), [1])
+        self.assert_rows(2, (1, 10, 0))
+
+    def test_a_check_step_is_refused_at_each_phase(self) -> None:
+        steps = committing(0, Put(1, 10, 3))
+        phases = []
+        for step in steps:
+            phases.append(int(self.table.writers[0].phase))
+            before = copy.deepcopy(self.table)
+            self.assertEqual(self.take(Step(0, CHECK)), [14])
+            self.assertEqual(self.table, before)
+            self.take(step)
+        self.assertEqual(phases, [0, 1, 2, 3, 4, 6])
+        self.assert_rows(1, (1, 10, 3))
+
+    def test_phase_5(self) -> None:
+        """Not reached from a fresh table: only giving up fits."""
+        writer = Writer(Phase.CHECK, Put(1, 10, 3), 1, 3, 0)
+        for step in (
+            Step(0, Put(1, 10, 3)),
+            *(Step(0, action) for action in Action if action is not GIVE_UP),
+        ):
+            with self.subTest(step=step):
+                self.table.last_timestamp = 1
+                self.table.group_locks = {3: 0}
+                self.table.writers[0] = replace(writer)
+                self.assertEqual(self.take(step), [14])
+                self.assertEqual(self.table.writers[0], writer)
+        self.assertEqual(self.take(Step(0, GIVE_UP)), [6])
+        self.assertEqual(self.table.group_locks, {})
+
+    def test_too_late_leaves_no_lock(self) -> None:
+        self.take(Step(1, Put(5, 11, 4)), *committing(0, Put(5, 10, 4)))
+        self.assert_last(3, through(1, READ))
+        self.assertEqual(self.table.group_locks, {})
+        self.assertEqual(self.table.instant(1), REQUESTED)
+        self.assert_last(0, through(2, READ, Put(6, 12, 4)))
+
+    def test_giving_up_frees(self) -> None:
+        for last in (READ, WRITE, INDEX):
+            with self.subTest(last=last):
+                self.table = Table(mode=self.MODE)
+                self.take(*through(0, last, Put(1, 10, 3)))
+                self.assertEqual(self.table.group_locks, {3: 0})
+                self.assert_last(19, through(1, READ, Put(2, 20, 3)))
+                self.assertEqual(self.take(Step(0, GIVE_UP), Step(1, READ)), [6, 0])
+                self.assertEqual(self.table.group_locks, {3: 1})
+
+    def test_giving_up_before_the_read(self) -> None:
+        self.take(*through(0, READ, Put(1, 10, 3)), *through(1, READ, Put(2, 20, 3)))
+        self.assertEqual(self.take(Step(1, GIVE_UP)), [6])
+        self.assertEqual(self.table.group_locks, {3: 0})
+
+    def test_a_writer_that_stalls(self) -> None:
+        """It keeps its group, and no other."""
+        self.take(*through(0, READ, Put(1, 10, 3)), *through(1, LOOK_UP, Put(2, 20, 3)))
+        for number in range(4):
+            self.assertEqual(self.take(Step(1, READ)), [19])
+            self.assert_last(1, committing(2, Put(3, 30 + number, 4)))
+        self.assert_rows(6, (3, 33, 4))
+        self.assertEqual(self.commit_from(0, WRITE), [0, 0, 1])
+        self.assertEqual(self.commit_from(1, READ), [0, 0, 0, 1])
+        self.assert_rows(6, (1, 10, 3), (2, 20, 3), (3, 33, 4))
+
+    def test_a_commit_of_a_later_timestamp_ends_who_waited(self) -> None:
+        self.take(*through(0, LOOK_UP, Put(1, 10, 3)), *through(1, READ, Put(2, 20, 3)))
+        self.assertEqual(self.take(Step(0, READ)), [19])
+        self.assertEqual(self.commit_from(1, WRITE), [0, 0, 1])
+        self.assertEqual(self.take(Step(0, READ)), [3])
+
+    def test_19_before_3(self) -> None:
+        self.take(*through(0, LOOK_UP, Put(1, 10, 3)))
+        self.take(*committing(1, Put(2, 20, 3)), *through(2, READ, Put(3, 30, 3)))
+        before = copy.deepcopy(self.table)
+        self.assertEqual(self.take(Step(0, READ)), [19])
+        self.assertEqual(self.table, before)
+        self.assertEqual(self.take(Step(2, GIVE_UP), Step(0, READ)), [6, 3])
+
+    def test_10_and_14_before_19(self) -> None:
+        self.take(*through(0, READ, Put(1, 10, 3)))
+        self.assertEqual(self.take(Step(16, READ), Step(1, READ)), [10, 14])
+        self.take(Step(1, Put(2, 20, 3)))
+        self.assertEqual(self.take(Step(1, READ)), [14])
+        self.assertEqual(self.take(Step(1, LOOK_UP), Step(1, READ)), [0, 19])
+        self.assertEqual(self.take(Step(0, READ)), [14])
+
+    def test_a_lock_for_each_group(self) -> None:
+        for group in range(GROUPS):
+            self.assert_last(0, through(group, READ, Put(group, 10, group)))
+        self.assertEqual(self.table.group_locks, {g: g for g in range(GROUPS)})
+        for group in range(GROUPS):
+            writer = GROUPS + group
+            self.assert_last(19, through(writer, READ, Put(writer, 20, group)))
+        for group in range(GROUPS):
+            self.assertEqual(self.commit_from(group, WRITE), [0, 0, 1])
+            self.assertEqual(self.commit_from(GROUPS + group, READ), [0, 0, 0, 1])
+        self.assertEqual(len(self.table.snapshot(16)), 16)
+
+    def test_an_index_step_asks_for_no_lock(self) -> None:
+        self.take(*through(0, INDEX, Put(1, 10, 3)), *through(1, WRITE, Put(2, 20, 4)))
+        self.assertEqual(self.take(Step(1, INDEX)), [0])
+        self.assertIsNone(self.table.lock)
+        for writer in (0, 1):
+            self.assertEqual(self.table.writers[writer].phase, Phase.COMMIT)
+            self.assertEqual(self.take(Step(writer, COMMIT)), [1])
+
+    def test_a_walk_never_gives_5_or_16(self) -> None:
+        """Nor does a refused step change anything."""
+        answers = set()
+        for seed, profile in enumerate(PROFILES):
+            self.table = Table(mode=self.MODE)
+            for step in walk(Draw(seed), profile, 300, Table(mode=self.MODE)):
+                before = copy.deepcopy(self.table)
+                answer = self.table.step(step)
+                answers.add(int(answer))
+                if answer >= Answer.NO_SUCH_WRITER:
+                    self.assertEqual(self.table, before)
+        self.assertEqual(answers, {0, 1, 2, 3, 4, 6, 10, 12, 13, 14, 18, 19})
+
+    def test_log_bytes_are_the_same(self) -> None:
+        printed = "0\n0\n0\n0\n0\n14\n1\nstop 0 at 18\n1 300 2\n"
+        self.assertEqual(program(EXAMPLE, Mode.PESSIMISTIC), printed)
+
+
+class IndexEntriesOfThePessimisticMode(PessimisticTest):
+    """Q-4 in a pessimistic table."""
+
+    def test_giving_up(self) -> None:
+        self.take(*through(0, INDEX, Put(1, 10, 0)))
+        self.assertEqual(self.table.index, {1: 0})
+        self.assertEqual(self.take(Step(0, GIVE_UP)), [6])
+        self.assertEqual(self.table.index, {})
+        self.assert_last(1, committing(1, Put(1, 11, 1)))
+        self.assert_rows(2, (1, 11, 1))
+
+    def test_an_older_entry_stays(self) -> None:
+        self.take(*committing(0, Put(1, 10, 0)), *through(1, INDEX, Put(1, 11, 1)))
+        self.assertEqual(self.take(Step(1, GIVE_UP)), [6])
+        self.assert_last(1, committing(2, Put(1, 12, 2)))
+        self.assert_rows(3, (1, 12, 0))
+
+    def test_a_remove_must_find_the_key_still_indexed(self) -> None:
+        self.take(*through(0, INDEX, Put(1, 10, 0)), *through(1, LOOK_UP, Remove(1)))
+        self.assertEqual(self.take(Step(1, READ), Step(0, GIVE_UP)), [19, 6])
+        self.assert_last(2, between(1, READ, INDEX))
+        self.assertEqual(self.table.writers[1], Writer())
+        self.assert_last(0, through(2, READ, Put(2, 20, 0)))
+
+    def test_a_remove_whose_key_has_gone_to_another_group(self) -> None:
+        self.take(*through(0, INDEX, Put(1, 10, 0)), *through(1, LOOK_UP, Remove(1)))
+        self.take(Step(0, GIVE_UP), *committing(2, Put(1, 11, 1)))
+        self.assert_last(4, between(1, READ, INDEX))
+        self.assert_rows(3, (1, 11, 1))
+
+    def test_a_put_keeps_the_group_that_it_found(self) -> None:
+        self.take(*through(0, INDEX, Put(1, 10, 0)))
+        self.take(*through(1, LOOK_UP, Put(1, 11, 1)), Step(0, GIVE_UP))
+        self.assertEqual(self.commit_from(1, READ), [0, 0, 0, 1])
+        self.assert_rows(2, (1, 11, 0))
+
+
+class LocksSetByHand(unittest.TestCase):
+    """Locks that no steps give, in tables of either mode."""
+
+    # A step, the writer that it ends, and the answer. Timestamp 2 is completed in
+    # group 4, and key 5 is indexed to group 6.
+    ENDINGS = (
+        (COMMIT, Writer(Phase.COMMIT, Put(1, 11, 4), 1, 4), 1),
+        (LOOK_UP, Writer(Phase.LOOK_UP, Remove(9), 1), 2),
+        (READ, Writer(Phase.READ, Put(1, 11, 4), 1, 4), 3),
+        (INDEX, Writer(Phase.INDEX, Put(5, 50, 4), 1, 4), 4),
+        (INDEX, Writer(Phase.INDEX, Remove(9), 1, 4), 2),
+        (GIVE_UP, Writer(Phase.WRITE, Put(1, 11, 4), 1, 4), 6),
+    )
+
+    def table_with(
+        self, mode: Mode, writer: Writer, lock: int | None, group_locks: dict[int, int]
+    ) -> Table:
+        table = Table(2, {2: Instant(State.COMPLETED, 4)}, index={5: 6}, mode=mode)
+        table.writers[3] = replace(writer)
+        table.lock, table.group_locks = lock, dict(group_locks)
+        return table
+
+    def test_each_ending_frees_the_locks_of_both_kinds(self) -> None:
+        others = {1: 7, 7: 2}
+        for mode in Mode:
+            for action, writer, answer in self.ENDINGS:
+                with self.subTest(mode=mode, answer=answer):
+                    held = dict.fromkeys((0, 2, 4, 5), 3)
+                    table = self.table_with(mode, writer, 3, held | others)
+                    self.assertEqual(table.step(Step(3, action)), answer)
+                    self.assertIsNone(table.lock)
+                    self.assertEqual(table.group_locks, others)
+
+    def test_a_failed_check(self) -> None:
+        writer = Writer(Phase.CHECK, Put(1, 11, 4), 1, 4)
+        for mode, answer, left in (
+            (Mode.OPTIMISTIC, 5, {1: 7}),
+            (Mode.PESSIMISTIC, 14, {1: 7, 4: 3}),
+        ):
+            with self.subTest(mode=mode):
+                table = self.table_with(mode, writer, None, {1: 7, 4: 3})
+                self.assertEqual(table.step(Step(3, CHECK)), answer)
+                self.assertEqual(table.group_locks, left)
+
+    def test_an_optimistic_table_ignores_the_locks_of_the_groups(self) -> None:
+        held = dict.fromkeys(range(GROUPS), 7)
+        table = Table(group_locks=held)
+        answers = [table.step(step) for step in whole(3, Put(1, 10, 4))]
+        self.assertEqual(answers, [0, 0, 0, 0, 0, 0, 1])
+        self.assertEqual(table.group_locks, held)
+
+    def test_a_pessimistic_table_ignores_the_table_lock(self) -> None:
+        table = Table(lock=7, mode=Mode.PESSIMISTIC)
+        answers = [table.step(step) for step in committing(3, Put(1, 10, 4))]
+        self.assertEqual(answers, [0, 0, 0, 0, 0, 1])
+        self.assertEqual(table.lock, 7)
+
+    def test_a_read_that_holds_its_lock_already(self) -> None:
+        writer = Writer(Phase.READ, Put(1, 11, 2), 1, 2)
+        table = self.table_with(Mode.PESSIMISTIC, writer, None, {2: 3})
+        self.assertEqual(table.step(Step(3, READ)), 0)
+        self.assertEqual(table.group_locks, {2: 3})
+
+    def test_an_index_step_whose_groups_lock_another_holds(self) -> None:
+        writer = Writer(Phase.INDEX, Put(1, 11, 2), 1, 2)
+        table = self.table_with(Mode.PESSIMISTIC, writer, 5, {2: 7})
+        self.assertEqual(table.step(Step(3, INDEX)), 0)
+        self.assertEqual(table.writers[3].phase, Phase.COMMIT)
+        self.assertEqual((table.lock, table.group_locks), (5, {2: 7}))
+
+    def test_a_writer_that_is_too_late_and_waits(self) -> None:
+        writer = Writer(Phase.READ, Put(1, 11, 4), 1, 4)
+        for mode, answer in ((Mode.OPTIMISTIC, 3), (Mode.PESSIMISTIC, 19)):
+            with self.subTest(mode=mode):
+                table = self.table_with(mode, writer, None, {4: 7})
+                self.assertEqual(table.step(Step(3, READ)), answer)
+                self.assertEqual(table.group_locks, {4: 7})
+
+    def test_a_lock_that_names_no_writer(self) -> None:
+        for mode in Mode:
+            self.assertFalse(Table(lock=WRITERS, mode=mode).in_range())
+            self.assertTrue(Table(lock=WRITERS - 1, mode=mode).in_range())
+            for group in range(GROUPS):
+                with self.subTest(mode=mode, group=group):
+                    table = Table(group_locks={group: WRITERS}, mode=mode)
+                    before = copy.deepcopy(table)
+                    self.assertEqual(table.step(Step(16, Put(32, 0, 8))), 17)
+                    self.assertEqual(table.point_read(32, 0), 17)
+                    self.assertEqual(table.scan(0, []), (17, 0))
+                    self.assertEqual(table.instant(1), 17)
+                    self.assertEqual(table, before)
+                    table.group_locks = {group: WRITERS - 1}
+                    self.assertTrue(table.in_range())
+
+
 class ConflictSearch(unittest.TestCase):
     """Document 02's Q-2."""
 
@@ -534,13 +839,14 @@ class Refusals(TableTest):
         refused = set()
         for seed, profile in enumerate(PROFILES):
             self.table = Table()
-            for step in walk(Draw(seed), profile, 100):
+            for step in walk(Draw(seed), profile, 100, Table()):
                 before = copy.deepcopy(self.table)
                 answer = self.table.step(step)
                 if answer >= Answer.NO_SUCH_WRITER:
                     refused.add(int(answer))
                     self.assertEqual(self.table, before)
         self.assertLessEqual({10, 12, 13, 14, 16, 18}, refused)
+        self.assertNotIn(19, refused)
 
     def test_only_a_start_is_refused_for_its_value(self) -> None:
         """A writer that has the erased word, which no steps give, goes on, gives up

@@ -1,4 +1,5 @@
 // The reads of a table.
+use model::Mode;
 use model::Table;
 use model::Value;
 use model::limits::ROWS;
@@ -31,7 +32,7 @@ pub fn reads() {
     let mut present = [false; ROWS];
     let mut values: [Value; ROWS] = [0; ROWS];
     let mut places = [0u8; 28];
-    let t = table::fresh(&mut present, &mut values);
+    let t = table::fresh(Mode::Optimistic, &mut present, &mut values);
     report::title(b"Point reads");
     let ran = run_printed(
         t,
@@ -77,7 +78,7 @@ pub fn instants() {
     let mut present = [false; ROWS];
     let mut values: [Value; ROWS] = [0; ROWS];
     let mut places = [0u8; 28];
-    let t = table::fresh(&mut present, &mut values);
+    let t = table::fresh(Mode::Optimistic, &mut present, &mut values);
     report::title(b"Instants");
     all_instants(t);
     let ran = run_printed(
@@ -100,7 +101,7 @@ fn room_after(by_steps: bool) {
     let mut present = [false; ROWS];
     let mut values: [Value; ROWS] = [0; ROWS];
     let mut places = [0u8; 14];
-    let t = table::fresh(&mut present, &mut values);
+    let t = table::fresh(Mode::Optimistic, &mut present, &mut values);
     let ran = run_printed(
         t,
         &mut present,

@@ -1,4 +1,5 @@
 // A run with fewer places than the log has records.
+use model::Mode;
 use model::Value;
 use model::limits::ROWS;
 use scripts::run_printed;
@@ -10,7 +11,7 @@ fn in_two_runs(log: &[u8], by_steps: bool) {
     let mut values: [Value; ROWS] = [0; ROWS];
     let mut four = [99u8; 4];
     let mut eight = [99u8; 8];
-    let t = table::fresh(&mut present, &mut values);
+    let t = table::fresh(Mode::Optimistic, &mut present, &mut values);
     let first = run_printed(
         t,
         &mut present,

@@ -1,6 +1,6 @@
 -- The largest number of a list: the loop that takes it, and the array tests of answer 17 as tests of it.
 --     largest-next, largest-end    a turn of the loop over the numbers from a place on, and its end
---     index-largest, instants-largest, above-largest    the tests of an array of known length
+--     locks-largest, index-largest, instants-largest, above-largest    the tests of an array of known length
 use Prim.Native.Nat.{ℕ, zero, suc, _+_, _<_, _≤_, zero-le, max}
 use native.Mathlib.Numerals.{add-one}
 use native.Mathlib.Omega.{arith}
@@ -11,10 +11,10 @@ use lib.ListN.{length, drop, getD, drop-of-length-le}
 use lib.Seq.{drop-cons, drop-nil}
 use lib.Dec.{eqb, ltb, leb, leb·zero, leb·suc-zero, leb·suc-suc, eqb·suc-zero}
 use borrow.Author.Tests.{leb-true, leb-false, le-leb, lt-leb, lt-ltb, le-ltb}
-use Rattle.model.specs.Limits.{keys, groups, timestamps}
+use Rattle.model.specs.Limits.{writers, keys, groups, timestamps}
 use Rattle.common.specs.Counting.{eachBelow}
 use Rattle.model.specs.State.{completed}
-use Rattle.model.specs.Range.{indexInRange, instantsInRange, noneAbove}
+use Rattle.model.specs.Range.{locksInRange, indexInRange, instantsInRange, noneAbove}
 use Rattle.common.proofs.EachBelow.{below-same, below-first}
 use Rattle.metadata.specs.Largest.{largest}
 
@@ -56,9 +56,17 @@ none-leb : (x : ℕ) → eqb x 0 ≡ leb x 0
 none-leb zero = refl
 none-leb (suc x) = eqb·suc-zero x ∙ sym (leb·suc-zero x)
 
+-- the same with a test of each number of the array
+all-largest : (n : ℕ) (xs : List ℕ) {r count : ℕ} → r ≡ largest xs → length xs ≡ count → eachBelow count (λ i. leb (getD xs i 0) n) ≡ leb r n
+all-largest n xs h e = each-largest n xs 0 h e _ (λ i. rw (le-ltb i 0 zero-le))
+
+pub locks-largest : (locks : List ℕ) {r : ℕ} → r ≡ largest locks → length locks ≡ groups → locksInRange locks ≡ leb r writers
+unfolding locksInRange
+locks-largest locks = all-largest writers locks
+
 pub index-largest : (index : List ℕ) {r : ℕ} → r ≡ largest index → length index ≡ keys → indexInRange index ≡ leb r groups
 unfolding indexInRange
-index-largest index h e = each-largest groups index 0 h e _ (λ i. rw (le-ltb i 0 zero-le))
+index-largest index = all-largest groups index
 
 module _ (timeline : List ℕ) {r : ℕ} where
   pub instants-largest : r ≡ largest timeline → length timeline ≡ timestamps → instantsInRange timeline ≡ ltb r (completed groups)

@@ -101,16 +101,16 @@ fn largest(numbers: &[u8], from: usize) -> u8
 // Are the numbers that all writers share in range? If so, the writers decide.
 fn shared_in_range<'a>(
     last: u8,
-    lock: u8,
+    locks: &'a [u8; GROUPS],
     index: &'a [u8; KEYS],
     timeline: &'a [u8; TIMESTAMPS],
 ) -> bool
-    ensures { λ r. ⌜ ((st : State) (ws : List Writer) → inRange (withParts st last lock ws (now (index .entry)) (now (timeline .entry))) ≡ (r && writersInRange last ws)) ⌝ }
+    ensures { λ r. ⌜ ((st : State) (ws : List Writer) → inRange (withParts st last (now (locks .entry)) ws (now (index .entry)) (now (timeline .entry))) ≡ (r && writersInRange last ws)) ⌝ }
 {
     if last > TIMESTAMPS as u8 {
         return false;
     }
-    if lock > WRITERS as u8 {
+    if largest(locks, 0) > WRITERS as u8 {
         return false;
     }
     if largest(index, 0) > GROUPS as u8 {
@@ -126,14 +126,14 @@ fn shared_in_range<'a>(
 // tested here, so that they are not copied on.
 pub fn parts_in_range<'a>(
     last: u8,
-    lock: u8,
+    locks: &'a [u8; GROUPS],
     writers: [Writer; WRITERS],
     index: &'a [u8; KEYS],
     timeline: &'a [u8; TIMESTAMPS],
 ) -> bool
-    ensures { λ r. ⌜ ((st : State) → r ≡ inRange (withParts st last lock writers (now (index .entry)) (now (timeline .entry)))) ⌝ }
+    ensures { λ r. ⌜ ((st : State) → r ≡ inRange (withParts st last (now (locks .entry)) writers (now (index .entry)) (now (timeline .entry)))) ⌝ }
 {
-    if !shared_in_range(last, lock, index, timeline) {
+    if !shared_in_range(last, locks, index, timeline) {
         return false;
     }
     let mut w: usize = 0;
@@ -150,8 +150,9 @@ pub fn parts_in_range<'a>(
 pub fn in_range(t: Table) -> bool
     ensures { λ r. ⌜ ((present : List Bool) (values : List ℕ) → r ≡ inRange (stateOf t present values)) ⌝ }
 {
+    let locks = t.locks;
     let writers = t.writers;
     let index = t.index;
     let timeline = t.timeline;
-    parts_in_range(t.last, t.lock, writers, &index, &timeline)
+    parts_in_range(t.last, &locks, writers, &index, &timeline)
 }

@@ -1,4 +1,4 @@
--- A commit keeps the invariant: `commit-keeps`. Its base is the newest of its group before it, since no commit of the group came after its check.
+-- A commit keeps the invariant: `commit-keeps`. Its base is the newest of its group before it, since nothing of the group is completed above it.
 use Prim.Native.Nat.{ℕ, _≤_, _<_}
 use mathlib.Core.Path.{_≡_, refl, sym, subst, subst⁻¹, ap, _∙_}
 use mathlib.Core.Logic.{_≢_}
@@ -6,18 +6,21 @@ use mathlib.Core.List.{List·Memᴰ·head, List·Memᴰ·tail}
 use mathlib.Core.Option.{Option, none, some, map-eq-none-iff}
 use native.Mathlib.Omega.{arith}
 use Rattle.common.specs.Counting.{upd}
+use Rattle.model.specs.Modes.{lockPhase}
 use Rattle.model.specs.State.{ready}
 use Rattle.model.specs.Rules.{keyOf}
 use Rattle.model.specs.History.{Pending, Committed, commitRecorded}
 use Rattle.model.specs.Binding.{byCommitted}
 use Rattle.model.specs.declared.Writer.{Writer}
 use Rattle.common.proofs.Functions.{none-some, some-inj, upd-same, upd-other, upd-ind}
+use Rattle.model.proofs.Modes.{lock-phase}
+use Rattle.model.proofs.Locks.{released-other, released-own}
 use Rattle.model.proofs.Newest.{newest-kept}
 use Rattle.model.proofs.CommittedAt.{committedAt, groupIn}
 use Rattle.model.proofs.Moves.{View, leaves, afterCommit}
-use Rattle.model.proofs.Invariant.{InProgress, Based, CommittedFacts, Invariant, one-past, pending-key}
+use Rattle.model.proofs.Invariant.{InProgress, Based, Made, CommittedFacts, Invariant, one-guarded, one-past, pending-key}
 use Rattle.model.proofs.Kept.{SharedKept, Moved, Kept, committed-facts, writer-facts, timestamps-unique}
-use Rattle.model.proofs.OwnFacts.{ready-facts, released-other, released-own}
+use Rattle.model.proofs.OwnFacts.{ready-facts}
 use Rattle.model.proofs.Binding.{still-bound}
 
 module _ (v : View) (w : ℕ) (i : Invariant v) where
@@ -43,12 +46,16 @@ module _ (v : View) (w : ℕ) (i : Invariant v) where
     based : Based (v .completed) (x .group) (x .base) (x .ts)
     based = i .writer w .based (omega arith)
 
+    guarded : lockPhase (v .mode) < x .phase
+    guarded = omega (arith, lock-phase (v .mode))
+
     latest : (s : ℕ) → v .completed s ≡ some (x .group) → s ≤ x .base
-    latest = i .writer w .latest (omega arith)
+    latest = i .writer w .latest guarded (omega arith)
 
     commit-shared : SharedKept v n
     commit-shared =
         record {
+          mode = refl;
           last = omega arith;
           completed = λ s g e. upd-other (v .completed) (x .ts) (some (x .group)) s (λ q. none-some (inProgress .uncompleted) (rw q at e)) ∙ e;
           newest =
@@ -77,9 +84,26 @@ module _ (v : View) (w : ℕ) (i : Invariant v) where
     abbrev c : Committed
     c = record { operation = p .operation; ts = p .ts; group = x .group }
 
-    -- another writer is not past the index step
-    not-past : (u : ℕ) → u ≢ w → ¬ (4 < v .writer u .phase)
-    not-past u ne past = ne (one-past v i u w past (omega arith))
+    -- what another writer found of its key holds still: the two are not on one key
+    still-made : (u : ℕ) → u ≢ w → Made (v .history .done) (v .writer u) → Made (n .history .done) (v .writer u)
+    unfolding commitRecorded committedAt
+    still-made u ne m =
+        record {
+          put = m .put;
+          past = m .past;
+          new =
+              λ s d.
+              upd-ind (committedAt (v .history .done)) (p .ts) (some c) (λ s o. o ≡ some d → keyOf (d .operation) ≢ v .writer u .key)
+              (λ q e. ne (one-past v i u w (m .past) (omega arith) (sym e ∙ ap (λ (d : Committed). keyOf (d .operation)) (some-inj q refl) ∙ at-key)))
+              (λ s ne. m .new s d) s;
+        }
+
+    -- nothing is completed in another writer's group while it has the lock
+    still-latest : (u : ℕ) → u ≢ w → lockPhase (v .mode) < v .writer u .phase
+        → (s : ℕ) → n .completed s ≡ some (v .writer u .group) → v .completed s ≡ some (v .writer u .group)
+    still-latest u ne past =
+        upd-ind (v .completed) (x .ts) (some (x .group)) (λ s o. o ≡ some (v .writer u .group) → v .completed s ≡ some (v .writer u .group))
+        (λ e. absurd (ne (one-guarded v i u w past guarded (sym (some-inj {o = some (x .group)} refl e))))) (λ s _ e. e)
 
     commit-moves : Moved v n w ready
     unfolding commitRecorded
@@ -95,12 +119,12 @@ module _ (v : View) (w : ℕ) (i : Invariant v) where
                 cell = λ q. refl;
                 stored = λ q. refl;
                 entry = λ q. refl;
-                made = λ m. absurd (not-past u ne (m .past));
-                locks = released-other (v .lock) w u ne .0;
-                holds = released-other (v .lock) w u ne .1;
-                latest = λ q. absurd (not-past u ne (omega arith));
+                made = still-made u ne;
+                guards = λ p. released-other (v .lock p) w u ne .0;
+                holds = λ p. released-other (v .lock p) w u ne .1;
+                latest = still-latest u ne;
               };
-          own = ready-facts n w (upd-same (v .history .pending) w none) (released-own (v .lock) w);
+          own = ready-facts n w (upd-same (v .history .pending) w none) (λ p. released-own (v .lock p) w);
           bound =
               λ k there.
               still-bound v (n .history) w ready (upd-other (v .history .pending) w none) (λ d m. List·Memᴰ·tail m)

@@ -1,4 +1,4 @@
--- The erased word is never put (document 02, Q-3): after any list of steps from a fresh table,
+-- The erased word is never put (document 02, Q-3): after any list of steps from a fresh table of either mode,
 --     never-erased    no operation in progress, and no committed one, is a put of the erased word
 --     never-listed    no row at any timestamp, and so no row of a scan, has it as its value
 use Prim.Native.Nat.{ℕ}
@@ -17,6 +17,7 @@ use Rattle.model.specs.Snapshot.{Row, rowsAt}
 use Rattle.model.specs.History.{Pending, Committed, History, empty, startRecorded, commitRecorded, endRecorded}
 use Rattle.model.specs.History.{newestOn, putRow, rowOfNewest, listing}
 use Rattle.model.specs.Isolation.{beginning, after}
+use Rattle.model.specs.declared.Mode.{Mode}
 use Rattle.model.specs.declared.Operation.{Operation}
 use Rattle.model.specs.declared.Operation.the-variants.{Put, Remove}
 use Rattle.model.specs.declared.Step.{Step}
@@ -63,10 +64,11 @@ fresh-unerased : Unerased empty
 unfolding empty
 fresh-unerased = record { pending = λ w p e. absurd (none-some refl e); committed = λ c m. absurd (List·Memᴰ·not-nil m) }
 
-pub never-erased : (ss : List Step) → Unerased (after ss .history)
-never-erased ss =
+pub never-erased : (mode : Mode) (ss : List Step) → Unerased (after mode ss .history)
+never-erased mode ss =
     executed-keeps (λ u. Consistent u × Unerased (u .history))
-    (λ u s (c, h). (step-consistent u s c, move-unerased (viewOf u) (s .writer) h _ (step-moves u s c))) beginning ss (fresh-consistent, fresh-unerased) .1
+    (λ u s (c, h). (step-consistent u s c, move-unerased (viewOf u) (s .writer) h _ (step-moves u s c))) (beginning mode) ss
+    (fresh-consistent mode, fresh-unerased) .1
 
 -- the row of a put, and that of the newest operation on a key
 put-unerased : (op : Operation) (g : ℕ) → putsErased op ≡ false → (r : Row) → List·Memᴰ r (putRow op g) → r .value ≢ erasedWord
@@ -78,10 +80,10 @@ row-unerased : (o : Option Committed) → ((c : Committed) → o ≡ some c → 
 row-unerased none f r m = absurd (List·Memᴰ·not-nil m)
 row-unerased (some c) f r m = put-unerased (c .operation) (c .group) (f c refl) r m
 
-pub never-listed : (ss : List Step) (t : ℕ) (r : Row) → List·Memᴰ r (rowsAt (after ss .state .shared) t) → r .value ≢ erasedWord
+pub never-listed : (mode : Mode) (ss : List Step) (t : ℕ) (r : Row) → List·Memᴰ r (rowsAt (after mode ss .state .shared) t) → r .value ≢ erasedWord
 unfolding listing
-never-listed ss t =
-    let u = after ss in
-    rw (rows-listed u (reached ss) t)
+never-listed mode ss t =
+    let u = after mode ss in
+    rw (rows-listed u (reached mode ss) t)
     (each-listed keys (λ k. rowOfNewest (newestOn (u .history .done) k t)) (λ r. r .value ≢ erasedWord)
-    (λ k. row-unerased (newestOn (u .history .done) k t) (λ c e. never-erased ss .committed c (newest-on-mem (u .history .done) k t c e))))
+    (λ k. row-unerased (newestOn (u .history .done) k t) (λ c e. never-erased mode ss .committed c (newest-on-mem (u .history .done) k t c e))))

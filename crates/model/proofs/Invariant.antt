@@ -9,14 +9,17 @@ use mathlib.Core.Option.{Option, none, some}
 use native.Mathlib.Omega.{arith}
 use Rattle.common.specs.Counting.{upd}
 use Rattle.common.proofs.Functions.{some-inj}
+use Rattle.model.specs.Modes.{guard, lockPhase}
 use Rattle.model.specs.Rules.{keyOf}
 use Rattle.model.specs.History.{Pending, Committed}
 use Rattle.model.specs.Binding.{Bound}
+use Rattle.model.specs.declared.Mode.the-variants.{Optimistic}
 use Rattle.model.specs.declared.Writer.{Writer}
 use Rattle.model.specs.declared.Operation.{Operation}
+use Rattle.model.proofs.Modes.{lock-phase}
 use Rattle.model.proofs.Newest.{Newest}
 use Rattle.model.proofs.CommittedAt.{committedAt, Distinct, groupIn}
-use Rattle.model.proofs.Moves.{View, leftBy, leaves, rowsStored}
+use Rattle.model.proofs.Moves.{View, leftBy, leaves, rowsStored, guardOf}
 
 -- an operation in progress: `o` is the history's pending one, on key k, leaving r there, under the timestamp n;
 -- n is issued, and nothing is completed at it (`done` is what is)
@@ -41,7 +44,8 @@ pub record Made (done : List Committed) (x : Writer) : Type 0 where
   pub past : 4 < x .phase
   pub new : (s : ℕ) (c : Committed) → committedAt done s ≡ some c → keyOf (c .operation) ≢ x .key
 
--- what holds of writer w, whose record is x, by its phase
+-- what holds of writer w, whose record is x, by its phase. From the step on that takes the lock, the writer holds the lock that guards its file group,
+-- and no other one; and while no check is to come, nothing of the group is completed above its base
 pub record WriterFacts (v : View) (w : ℕ) (x : Writer) : Type 0 where
   pub ready : x .phase ≡ 0 → v .history .pending w ≡ none
   pub inProgress : 0 < x .phase → InProgress (v .history .pending w) (v .last) (v .completed (x .ts)) (x .key) (leaves x) (x .ts)
@@ -50,9 +54,10 @@ pub record WriterFacts (v : View) (w : ℕ) (x : Writer) : Type 0 where
   pub stored : 3 < x .phase → v .stored (x .ts) ≡ v .cell (x .group) (x .ts)
   pub indexed : 4 < x .phase → v .entry (x .key) ≡ x .group + 1
   pub made : x .made ≡ true → Made (v .history .done) x
-  pub locks : 4 < x .phase → v .lock ≡ w + 1
-  pub holds : v .lock ≡ w + 1 → 4 < x .phase
-  pub latest : 5 < x .phase → (s : ℕ) → v .completed s ≡ some (x .group) → s ≤ x .base
+  pub guards : lockPhase (v .mode) < x .phase → v .lock (guardOf v x) ≡ w + 1
+  pub holds : (p : ℕ) → v .lock p ≡ w + 1 → (lockPhase (v .mode) < x .phase) × (p ≡ guardOf v x)
+  pub checks : x .phase ≡ 5 → v .mode ≡ Optimistic
+  pub latest : lockPhase (v .mode) < x .phase → x .phase ≢ 5 → (s : ℕ) → v .completed s ≡ some (x .group) → s ≤ x .base
 
 -- what holds of the operation op, committed at s in group g
 pub record CommittedFacts (v : View) (s g : ℕ) (op : Operation) : Type 0 where
@@ -73,9 +78,18 @@ pub record Invariant (v : View) : Type 0 where
   pub writer : (w : ℕ) → WriterFacts v w (v .writer w)
   pub unique : (a b : ℕ) → 0 < v .writer a .phase → 0 < v .writer b .phase → v .writer a .ts ≡ v .writer b .ts → a ≡ b
 
--- two writers past the index step are one: each has the lock
-pub one-past : (v : View) → Invariant v → (a b : ℕ) → 4 < v .writer a .phase → 4 < v .writer b .phase → a ≡ b
-one-past v i a b p q = omega (arith, i .writer a .locks p, i .writer b .locks q)
+-- two writers that have the lock of one file group are one
+pub one-guarded : (v : View) → Invariant v → (a b : ℕ) → lockPhase (v .mode) < v .writer a .phase → lockPhase (v .mode) < v .writer b .phase
+    → v .writer a .group ≡ v .writer b .group → a ≡ b
+one-guarded v i a b p q e =
+    let same : v .lock (guardOf v (v .writer a)) ≡ v .lock (guardOf v (v .writer b)) = ap (λ (g : ℕ). v .lock (guard (v .mode) g)) e in
+    omega (arith, i .writer a .guards p, i .writer b .guards q)
+
+-- and so are two writers past the index step on one key, whose entry names the group of each
+pub one-past : (v : View) → Invariant v → (a b : ℕ) → 4 < v .writer a .phase → 4 < v .writer b .phase → v .writer a .key ≡ v .writer b .key → a ≡ b
+one-past v i a b p q e =
+    let early = lock-phase (v .mode) in
+    one-guarded v i a b (omega arith) (omega arith) (omega (arith, i .writer a .indexed p, i .writer b .indexed q, ap (v .entry) e))
 
 -- a writer's operation in progress is on its key
 pub pending-key : (v : View) → Invariant v → (w : ℕ) (p : Pending) → 0 < v .writer w .phase → v .history .pending w ≡ some p

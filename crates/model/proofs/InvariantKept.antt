@@ -14,7 +14,8 @@ use Rattle.common.proofs.Functions.{upd-same, upd-other, upd-ind}
 use Rattle.model.proofs.Moves.{View, afterStart, afterEnd, Move, stays, starts, continues, ends, commits}
 use Rattle.model.proofs.Invariant.{Invariant, one-past, pending-key}
 use Rattle.model.proofs.Kept.{Kept, unchanged, uncommitted}
-use Rattle.model.proofs.OwnFacts.{unwritten, ready-facts, begun-fields, released-other, released-own}
+use Rattle.model.proofs.Locks.{released-other, released-own}
+use Rattle.model.proofs.OwnFacts.{unread, ready-facts, begun-fields}
 use Rattle.model.proofs.Binding.{puts-key, still-bound}
 use Rattle.model.proofs.PhaseKept.{phase-keeps}
 use Rattle.model.proofs.CommitKept.{commit-keeps}
@@ -31,7 +32,7 @@ module _ (v : View) (w : ℕ) (i : Invariant v) where
       uncommitted v n w x i
       (record {
         writer = refl;
-        shared = unchanged v n (omega arith) refl refl refl refl;
+        shared = unchanged v n refl (omega arith) refl refl refl refl;
         others =
             λ u ne.
             record {
@@ -41,12 +42,12 @@ module _ (v : View) (w : ℕ) (i : Invariant v) where
               stored = λ q. refl;
               entry = λ q. refl;
               made = λ m. m;
-              locks = λ e. e;
-              holds = λ e. e;
+              guards = λ p e. e;
+              holds = λ p e. e;
               latest = λ q s e. e;
             };
         own =
-            unwritten n w x (omega arith) (λ q. absurd (omega arith))
+            unread n w x (omega arith) (λ q. absurd (omega arith))
             (λ q.
             record {
               pending = p;
@@ -58,7 +59,7 @@ module _ (v : View) (w : ℕ) (i : Invariant v) where
               issued = omega arith;
               uncompleted = i .above (x .ts) (omega arith);
             })
-            (λ q. absurd (omega arith)) (λ m. false≢true (sym (b .4) ∙ m)) (λ q. omega (arith, i .writer w .holds q));
+            (λ m. false≢true (sym (b .4) ∙ m)) (λ p q. omega (arith, i .writer w .holds p q));
         bound =
             λ k there.
             still-bound v (n .history) w x (upd-other (v .history .pending) w (some p)) (λ c m. m)
@@ -96,6 +97,7 @@ module _ (v : View) (w : ℕ) (i : Invariant v) where
         writer = refl;
         shared =
             record {
+              mode = refl;
               last = omega arith;
               completed = λ s g e. e;
               newest = λ s g b e h. h;
@@ -110,13 +112,13 @@ module _ (v : View) (w : ℕ) (i : Invariant v) where
               uncompleted = λ q. refl;
               cell = λ q. refl;
               stored = λ q. refl;
-              entry = λ q. entry-stays (v .writer u .key) (λ made e. ne (one-past v i u w q (i .writer w .made made .past)));
+              entry = λ q. entry-stays (v .writer u .key) (λ made e. ne (one-past v i u w q (i .writer w .made made .past) e));
               made = λ m. m;
-              locks = released-other (v .lock) w u ne .0;
-              holds = released-other (v .lock) w u ne .1;
+              guards = λ p. released-other (v .lock p) w u ne .0;
+              holds = λ p. released-other (v .lock p) w u ne .1;
               latest = λ q s e. e;
             };
-        own = ready-facts n w (upd-same (v .history .pending) w none) (released-own (v .lock) w);
+        own = ready-facts n w (upd-same (v .history .pending) w none) (λ p. released-own (v .lock p) w);
         bound =
             λ k there.
             let (old, other) = entry-left k there in
@@ -130,7 +132,7 @@ module _ (v : View) (w : ℕ) (i : Invariant v) where
 
 pub move-keeps : (v n : View) (w : ℕ) → Invariant v → Move v w n → Kept v n
 move-keeps v n w i (stays e) =
-    subst⁻¹ (Kept v) e (record { shared = unchanged v v (omega arith) refl refl refl refl; invariant = i })
+    subst⁻¹ (Kept v) e (record { shared = unchanged v v refl (omega arith) refl refl refl refl; invariant = i })
 move-keeps v n w i (starts op unerased at e) = subst⁻¹ (Kept v) e (start-keeps v w i op at)
 move-keeps v n w i (continues p e) = subst⁻¹ (Kept v) e (phase-keeps v w i p)
 move-keeps v n w i (ends e) = subst⁻¹ (Kept v) e (end-keeps v w i)

@@ -1,4 +1,4 @@
--- Demand 3 of document 00, for every list of steps from a fresh table: `isolated`.
+-- Demand 3 of document 00, for every list of steps from a fresh table of either mode: `isolated`.
 -- `reached` says that every table reached is consistent with its history, `listing-stays` that the listing at a settled timestamp stays.
 use Prim.Native.Nat.{ℕ, zero, suc, _≤_, _<_}
 use mathlib.Core.Path.{_≡_, refl, subst⁻¹, ap, _∙_, fun-ext}
@@ -6,11 +6,12 @@ use mathlib.Core.List.{List}
 use mathlib.Core.Option.{none, some}
 use native.Mathlib.Omega.{arith}
 use lib.ListN.{replicate}
-use Rattle.model.specs.Limits.{writers, keys, timestamps}
+use Rattle.model.specs.Limits.{writers, keys, groups, timestamps}
 use Rattle.common.specs.Counting.{upd, listBelow}
 use Rattle.model.specs.State.{ready, fresh}
 use Rattle.model.specs.History.{Pending, History, empty, startRecorded, commitRecorded, endRecorded, newestOn, rowOfNewest, listing}
 use Rattle.model.specs.Isolation.{Execution, executed, beginning, after, Isolated}
+use Rattle.model.specs.declared.Mode.{Mode}
 use Rattle.model.specs.declared.Writer.{Writer}
 use Rattle.model.specs.declared.Step.{Step}
 use Rattle.common.proofs.Functions.{none-some, upd-some, upd-none, getD-fresh}
@@ -30,17 +31,17 @@ unfolding groupCompleted
 fresh-completed zero = refl
 fresh-completed (suc n) = ap groupCompleted (getD-fresh timestamps n 0)
 
-fresh-writer : (w : ℕ) → viewOf beginning .writer w ≡ ready
+fresh-writer : (mode : Mode) (w : ℕ) → viewOf (beginning mode) .writer w ≡ ready
 unfolding fresh
-fresh-writer w = getD-fresh writers w ready
+fresh-writer mode w = getD-fresh writers w ready
 
--- the fresh table and the empty history satisfy the invariant
-pub fresh-consistent : Consistent beginning
+-- a fresh table and the empty history satisfy the invariant
+pub fresh-consistent : (mode : Mode) → Consistent (beginning mode)
 unfolding fresh empty committedAt
-fresh-consistent =
+fresh-consistent mode =
     record {
-      lengths = fresh-lengths;
-      ranged = fresh-in-range;
+      lengths = fresh-lengths mode;
+      ranged = fresh-in-range mode;
       invariant =
           record {
             last = refl;
@@ -50,16 +51,16 @@ fresh-consistent =
             empty = cell-zero _ _;
             committed = λ s c e. absurd (none-some refl e);
             bound = λ k there. absurd (there (getD-fresh keys k 0));
-            writer = λ w. rw (getD-fresh writers w ready) (ready-facts (viewOf beginning) w refl (λ e. omega arith));
-            unique = λ a b p q e. absurd (omega (arith, ap (λ (x : Writer). x .phase) (fresh-writer a)));
+            writer = λ w. rw (getD-fresh writers w ready) (ready-facts (viewOf (beginning mode)) w refl (λ p e. omega (arith, getD-fresh {A = ℕ} groups p 0)));
+            unique = λ a b p q e. absurd (omega (arith, ap (λ (x : Writer). x .phase) (fresh-writer mode a)));
           };
     }
 
 pub executed-consistent : (u : Execution) (ss : List Step) → Consistent u → Consistent (executed u ss)
 executed-consistent = executed-keeps Consistent step-consistent
 
-pub reached : (ss : List Step) → Consistent (after ss)
-reached ss = executed-consistent beginning ss fresh-consistent
+pub reached : (mode : Mode) (ss : List Step) → Consistent (after mode ss)
+reached mode ss = executed-consistent (beginning mode) ss (fresh-consistent mode)
 
 -- the timestamp t is issued, every operation in progress holds a later one, and what is committed at or before t is what `h` has
 pub record Settled (t : ℕ) (h n : History) : Type 0 where
@@ -106,15 +107,15 @@ listing-stays t u ss h s =
     (λ n x (c, s). (step-consistent n x c, move-settled t (u .history) (viewOf n) (x .writer) s _ (step-moves n x c))) u ss (h, s) in
     ap (listBelow keys) (fun-ext (λ k. ap rowOfNewest (kept .1 .same k)))
 
-pub isolated : (ss : List Step) → Isolated ss
-isolated ss =
-    let h = reached ss in
+pub isolated : (mode : Mode) (ss : List Step) → Isolated mode ss
+isolated mode ss =
+    let h = reached mode ss in
     record {
-      lists = scan-listed (after ss) h;
-      oneGroup = λ c d p q k x y e f. omega (arith, in-slice (after ss) h c p k x e, in-slice (after ss) h d q k y f);
+      lists = scan-listed (after mode ss) h;
+      oneGroup = λ c d p q k x y e f. omega (arith, in-slice (after mode ss) h c p k x e, in-slice (after mode ss) h d q k y f);
       stays =
           λ t positive issued later more buffer room.
-          let same = listing-stays t (after ss) more h (record { issued = issued; later = later; same = λ k. refl }) in
-          rw (executed-append beginning ss more, ← same)
-          (scan-listed (executed (after ss) more) (executed-consistent (after ss) more h) t buffer (rw same room));
+          let same = listing-stays t (after mode ss) more h (record { issued = issued; later = later; same = λ k. refl }) in
+          rw (executed-append (beginning mode) ss more, ← same)
+          (scan-listed (executed (after mode ss) more) (executed-consistent (after mode ss) more h) t buffer (rw same room));
     }

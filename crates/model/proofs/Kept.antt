@@ -7,6 +7,7 @@ use mathlib.Core.Logic.{_≢_}
 use mathlib.Core.Option.{Option, some}
 use native.Mathlib.Omega.{arith}
 use Rattle.common.specs.Counting.{upd}
+use Rattle.model.specs.Modes.{lockPhase}
 use Rattle.model.specs.Rules.{keyOf}
 use Rattle.model.specs.History.{Committed}
 use Rattle.model.specs.Binding.{Bound}
@@ -19,6 +20,7 @@ use Rattle.model.proofs.Invariant.{Made, WriterFacts, CommittedFacts, I
 
 -- what a move keeps of the part that all writers share
 pub record SharedKept (v n : View) : Type 0 where
+  pub mode : n .mode ≡ v .mode
   pub last : v .last ≤ n .last
   pub completed : (s g : ℕ) → v .completed s ≡ some g → n .completed s ≡ some g
   pub newest : (s g b : ℕ) → v .completed s ≡ some g → Newest (v .completed) g (pred s) b → Newest (n .completed) g (pred s) b
@@ -34,9 +36,9 @@ pub record OtherKept (v n : View) (u : ℕ) (x : Writer) : Type 0 where
   pub stored : 0 < x .phase → n .stored (x .ts) ≡ v .stored (x .ts)
   pub entry : 4 < x .phase → n .entry (x .key) ≡ v .entry (x .key)
   pub made : Made (v .history .done) x → Made (n .history .done) x
-  pub locks : v .lock ≡ u + 1 → n .lock ≡ u + 1
-  pub holds : n .lock ≡ u + 1 → v .lock ≡ u + 1
-  pub latest : 5 < x .phase → (s : ℕ) → n .completed s ≡ some (x .group) → v .completed s ≡ some (x .group)
+  pub guards : (p : ℕ) → v .lock p ≡ u + 1 → n .lock p ≡ u + 1
+  pub holds : (p : ℕ) → n .lock p ≡ u + 1 → v .lock p ≡ u + 1
+  pub latest : lockPhase (v .mode) < x .phase → (s : ℕ) → n .completed s ≡ some (x .group) → v .completed s ≡ some (x .group)
 
 -- a move of writer w, whose record becomes x
 pub record Moved (v n : View) (w : ℕ) (x : Writer) : Type 0 where
@@ -52,10 +54,11 @@ pub record Kept (v n : View) : Type 0 where
   pub shared : SharedKept v n
   pub invariant : Invariant n
 
-pub unchanged : (v n : View) → v .last ≤ n .last → n .completed ≡ v .completed → n .entry ≡ v .entry → n .cell ≡ v .cell → n .stored ≡ v .stored
+pub unchanged : (v n : View) → n .mode ≡ v .mode → v .last ≤ n .last → n .completed ≡ v .completed → n .entry ≡ v .entry → n .cell ≡ v .cell → n .stored ≡ v .stored
     → SharedKept v n
-unchanged v n last completed entry cell stored =
+unchanged v n mode last completed entry cell stored =
     record {
+      mode = mode;
       last = last;
       completed = λ s g e. rw completed e;
       newest = λ s g b e h. rw completed h;
@@ -87,9 +90,10 @@ module _ (v n : View) (k : SharedKept v n) where
         stored = λ p. o .stored (omega arith) ∙ f .stored p ∙ sym (o .cell (omega arith));
         indexed = λ p. o .entry p ∙ f .indexed p;
         made = λ e. o .made (f .made e);
-        locks = λ p. o .locks (f .locks p);
-        holds = λ e. f .holds (o .holds e);
-        latest = λ p s e. f .latest p s (o .latest p s e);
+        guards = rw (k .mode) (λ p. o .guards _ (f .guards p));
+        holds = rw (k .mode) (λ p e. f .holds p (o .holds p e));
+        checks = rw (k .mode) (f .checks);
+        latest = rw (k .mode) (λ p c s e. f .latest p c s (o .latest p s e));
       }
 
   pub committed-facts : Invariant v → (s : ℕ) (c : Committed) → committedAt (v .history .done) s ≡ some c

@@ -1,3 +1,5 @@
+pub mod Modes
+pub mod Locks
 pub mod Newest
 pub mod CompletedInstants
 pub mod CommittedAt
@@ -21,5 +23,6 @@ pub mod StepMoves
 pub mod Listing
 pub mod Isolation
 pub mod Corollaries
+pub mod Exclusion
 pub mod Erased
 pub mod EnumNumbers

@@ -5,18 +5,22 @@ use mathlib.Core.Logic.{_≢_}
 use mathlib.Core.Bool.{Bool, true, false, cond}
 use mathlib.Core.Option.{Option, none, some}
 use Rattle.common.specs.Counting.{upd}
+use Rattle.model.specs.Modes.{guard, afterIndex}
 use Rattle.model.specs.State.{ready}
-use Rattle.model.specs.Rules.{putsErased, begun, moved, withMade, released}
+use Rattle.model.specs.Rules.{putsErased, begun, moved, withMade, takesLock, released}
 use Rattle.model.specs.History.{Pending, History, startRecorded, commitRecorded, endRecorded}
+use Rattle.model.specs.declared.Mode.{Mode}
 use Rattle.model.specs.declared.Writer.{Writer}
 use Rattle.model.specs.declared.Operation.{Operation}
 use Rattle.model.specs.declared.Operation.the-variants.{Put, Remove}
 use Rattle.model.specs.declared.Action.the-variants.{Start}
 use Rattle.model.proofs.Newest.{Newest}
+use Rattle.model.proofs.Locks.{takenIf}
 
 pub record View : Type 0 where
+  pub mode : Mode
   pub last : ℕ
-  pub lock : ℕ
+  pub lock : ℕ → ℕ  -- at each place: 0, or its holder + 1
   pub entry : ℕ → ℕ  -- of each key: 0, or its file group + 1
   pub completed : ℕ → Option ℕ  -- the file group of each completed timestamp
   pub cell : ℕ → ℕ → ℕ → Option ℕ  -- the value of each key in the slice of each file group and timestamp
@@ -43,6 +47,7 @@ storing cell x = upd cell (x .group) (upd (cell (x .group)) (x .ts) (rowsStored 
 abbrev pub afterStart : View → ℕ → Operation → View
 afterStart v w op =
     record {
+      mode = v .mode;
       last = v .last + 1;
       lock = v .lock;
       entry = v .entry;
@@ -53,10 +58,11 @@ afterStart v w op =
       stored = v .stored;
     }
 
--- writer w goes on as x, with the lock, the index, the slices and what is stored given
-abbrev pub afterPhase : View → ℕ → Writer → ℕ → (ℕ → ℕ) → (ℕ → ℕ → ℕ → Option ℕ) → (ℕ → ℕ → Option ℕ) → View
+-- writer w goes on as x, with the locks, the index, the slices and what is stored given
+abbrev pub afterPhase : View → ℕ → Writer → (ℕ → ℕ) → (ℕ → ℕ) → (ℕ → ℕ → ℕ → Option ℕ) → (ℕ → ℕ → Option ℕ) → View
 afterPhase v w x lock entry cell stored =
     record {
+      mode = v .mode;
       last = v .last;
       lock = lock;
       entry = entry;
@@ -71,8 +77,9 @@ afterPhase v w x lock entry cell stored =
 abbrev pub afterEnd : View → ℕ → View
 afterEnd v w =
     record {
+      mode = v .mode;
       last = v .last;
-      lock = released (v .lock) w;
+      lock = λ p. released (v .lock p) w;
       entry = cond (v .writer w .made) (upd (v .entry) (v .writer w .key) 0) (v .entry);
       completed = v .completed;
       cell = v .cell;
@@ -85,8 +92,9 @@ afterEnd v w =
 abbrev pub afterCommit : View → ℕ → Pending → View
 afterCommit v w p =
     record {
+      mode = v .mode;
       last = v .last;
-      lock = released (v .lock) w;
+      lock = λ q. released (v .lock q) w;
       entry = v .entry;
       completed = upd (v .completed) (v .writer w .ts) (some (v .writer w .group));
       cell = v .cell;
@@ -95,17 +103,30 @@ afterCommit v w p =
       stored = v .stored;
     }
 
--- writer w, whose record is x, goes on to its next phase: what its record, the lock, the index and the slices become
-pub data NextPhase (v : View) (w : ℕ) (x : Writer) : Writer → ℕ → (ℕ → ℕ) → (ℕ → ℕ → ℕ → Option ℕ) → (ℕ → ℕ → Option ℕ) → Type 0 where
+-- the lock that guards the file group of writer x
+abbrev pub guardOf : View → Writer → ℕ
+guardOf v x = guard (v .mode) (x .group)
+
+-- if the step at x's phase takes it, it is free, or writer w's own
+abbrev pub Unblocked : View → ℕ → Writer → Type 0
+Unblocked v w x = takesLock (v .mode) x ≡ true → v .lock (guardOf v x) ≢ 0 → v .lock (guardOf v x) ≡ w + 1
+
+-- the locks after that step
+abbrev pub locksTaken : View → ℕ → Writer → ℕ → ℕ
+locksTaken v w x = takenIf (takesLock (v .mode) x) (v .lock) (guardOf v x) w
+
+-- writer w, whose record is x, goes on to its next phase: what its record, the locks, the index and the slices become
+pub data NextPhase (v : View) (w : ℕ) (x : Writer) : Writer → (ℕ → ℕ) → (ℕ → ℕ) → (ℕ → ℕ → ℕ → Option ℕ) → (ℕ → ℕ → Option ℕ) → Type 0 where
   looksUp : (g : ℕ) → x .phase ≡ 1 → NextPhase v w x (moved x 2 g (x .base)) (v .lock) (v .entry) (v .cell) (v .stored)
-  reads : (b : ℕ) → x .phase ≡ 2 → Newest (v .completed) (x .group) (v .last) b → b ≤ x .ts
-      → NextPhase v w x (moved x 3 (x .group) b) (v .lock) (v .entry) (v .cell) (v .stored)
+  reads : (b : ℕ) → x .phase ≡ 2 → Unblocked v w x → Newest (v .completed) (x .group) (v .last) b → b ≤ x .ts
+      → NextPhase v w x (moved x 3 (x .group) b) (locksTaken v w x) (v .entry) (v .cell) (v .stored)
   writes : x .phase ≡ 3
       → NextPhase v w x (moved x 4 (x .group) (x .base)) (v .lock) (v .entry) (storing (v .cell) x)
       (upd (v .stored) (x .ts) (rowsStored (v .cell) x))
-  indexes : (made : Bool) → x .phase ≡ 4 → (v .lock ≢ 0 → v .lock ≡ w + 1) → (made ≡ true → (x .put ≡ true) × (v .entry (x .key) ≡ 0))
+  indexes : (made : Bool) → x .phase ≡ 4 → Unblocked v w x → (made ≡ true → (x .put ≡ true) × (v .entry (x .key) ≡ 0))
       → (made ≡ false → v .entry (x .key) ≡ x .group + 1)
-      → NextPhase v w x (moved (withMade x made) 5 (x .group) (x .base)) (w + 1) (upd (v .entry) (x .key) (x .group + 1)) (v .cell) (v .stored)
+      → NextPhase v w x (moved (withMade x made) (afterIndex (v .mode)) (x .group) (x .base)) (locksTaken v w x) (upd (v .entry) (x .key) (x .group + 1))
+      (v .cell) (v .stored)
   checks : (b : ℕ) → x .phase ≡ 5 → Newest (v .completed) (x .group) (v .last) b → b ≤ x .base
       → NextPhase v w x (moved x 6 (x .group) (x .base)) (v .lock) (v .entry) (v .cell) (v .stored)
 
@@ -113,7 +134,7 @@ pub data NextPhase (v : View) (w : ℕ) (x : Writer) : Writer → ℕ → (ℕ �
 pub data Move (v : View) (w : ℕ) (n : View) : Type 0 where
   stays : n ≡ v → Move v w n
   starts : (op : Operation) → putsErased op ≡ false → v .writer w .phase ≡ 0 → n ≡ afterStart v w op → Move v w n
-  continues : {x : Writer} {l : ℕ} {e : ℕ → ℕ} {c : ℕ → ℕ → ℕ → Option ℕ} {d : ℕ → ℕ → Option ℕ}
+  continues : {x : Writer} {l e : ℕ → ℕ} {c : ℕ → ℕ → ℕ → Option ℕ} {d : ℕ → ℕ → Option ℕ}
       → NextPhase v w (v .writer w) x l e c d → n ≡ afterPhase v w x l e c d → Move v w n
   ends : n ≡ afterEnd v w → Move v w n
   commits : (p : Pending) → v .writer w .phase ≡ 6 → v .history .pending w ≡ some p → n ≡ afterCommit v w p → Move v w n

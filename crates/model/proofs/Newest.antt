@@ -1,11 +1,11 @@
 -- The newest timestamp at or below n at which a function gives x, or 0. It serves the completed instants of a file group and the
--- committed operations on a key. `newest-down` goes down one timestamp; `newest-kept` and `newest-moves` say what one timestamp more,
--- which was empty before, changes.
+-- committed operations on a key. `newest-same` compares two functions, `newest-down` goes down one timestamp; `newest-kept` and `newest-moves` say
+-- what one timestamp more, which was empty before, changes.
 use Prim.Native.Nat.{ℕ, suc, _≤_, _<_}
 use mathlib.Core.Path.{_≡_, refl, _∙_}
 use mathlib.Core.Logic.{_≢_, by-cases}
 use mathlib.Core.Option.{Option, none, some}
-use native.Mathlib.Decide.{ℕ-discrete}
+use native.Mathlib.Decide.{ℕ-discrete, decLt}
 use native.Mathlib.Omega.{arith}
 use Rattle.common.specs.Counting.{upd}
 use Rattle.common.proofs.Functions.{none-some, some-inj, upd-same, upd-other, upd-ind}
@@ -14,6 +14,15 @@ pub record Newest (d : ℕ → Option ℕ) (x n b : ℕ) : Type 0 where
   pub below : b ≤ n
   pub hit : 0 < b → d b ≡ some x
   pub most : (s : ℕ) → s ≤ n → d s ≡ some x → s ≤ b
+
+-- where a function gives x, another does: its newest is no later
+newest-later : {d e : ℕ → Option ℕ} {x n b c : ℕ} → Newest d x n b → Newest e x n c → ((s : ℕ) → d s ≡ some x → e s ≡ some x) → b ≤ c
+newest-later {b} h i also = by-cases (decLt 0 b) (λ p. i .most b (h .below) (also b (h .hit p))) (λ z. omega arith)
+
+-- two functions that give x at the same timestamps have the same newest one
+pub newest-same : {d e : ℕ → Option ℕ} {x n b c : ℕ} → Newest d x n b → Newest e x n c → ((s : ℕ) → d s ≡ some x → e s ≡ some x)
+    → ((s : ℕ) → e s ≡ some x → d s ≡ some x) → b ≡ c
+newest-same h i f g = omega (arith, newest-later h i f, newest-later i h g)
 
 module _ {d : ℕ → Option ℕ} {x n b : ℕ} where
   pub newest-down : {P : Type 0} → Newest d x (suc n) b → (d (suc n) ≡ some x → b ≡ suc n → P) → (Newest d x n b → P) → P

@@ -3,29 +3,42 @@ use Prim.Native.Nat.{ℕ, _+_, _≤_, _<_}
 use mathlib.Core.Path.{_≡_, refl, sym, ap, _∙_}
 use mathlib.Core.Logic.{_≢_}
 use mathlib.Core.Bool.{true}
-use mathlib.Core.Option.{Option}
+use mathlib.Core.Option.{Option, some}
 use native.Mathlib.Omega.{arith}
+use borrow.Author.Tests.{eqb-true, eqb-false}
 use Rattle.common.specs.Counting.{upd}
-use Rattle.model.specs.Rules.{moved, withMade}
+use Rattle.model.specs.Modes.{lockPhase, afterIndex}
+use Rattle.model.specs.Rules.{moved, withMade, takesLock}
 use Rattle.model.specs.Binding.{Bound, byPending}
 use Rattle.model.specs.declared.Writer.{Writer}
 use Rattle.common.proofs.Cases.{by-test}
 use Rattle.common.proofs.Functions.{none-some, upd-same, upd-other, upd-ind}
-use Rattle.model.proofs.Moves.{View, rowsStored, storing, afterPhase, NextPhase, looksUp, reads, writes, indexes, checks}
+use Rattle.model.proofs.Modes.{lock-phase, after-index}
+use Rattle.model.proofs.Locks.{taken-other, taken-own, taken-holds}
+use Rattle.model.proofs.Newest.{Newest}
+use Rattle.model.proofs.Moves.{View, rowsStored, storing, afterPhase, guardOf, Unblocked, locksTaken}
+use Rattle.model.proofs.Moves.{NextPhase, looksUp, reads, writes, indexes, checks}
 use Rattle.model.proofs.Invariant.{WriterFacts, Invariant}
 use Rattle.model.proofs.Kept.{SharedKept, Kept, unchanged, uncommitted}
 use Rattle.model.proofs.Slices.{stored-own, stored-other}
-use Rattle.model.proofs.OwnFacts.{unwritten}
+use Rattle.model.proofs.OwnFacts.{unread}
 use Rattle.model.proofs.Binding.{puts-on, still-bound}
 
 module _ (v : View) (w : ℕ) (i : Invariant v) where
+  -- the locks l are the other writers' as before
+  abbrev OthersLocks : (ℕ → ℕ) → Type 0
+  OthersLocks l = (u : ℕ) → u ≢ w → (p : ℕ) → (v .lock p ≡ u + 1 → l p ≡ u + 1) × (l p ≡ u + 1 → v .lock p ≡ u + 1)
+
+  same-locks : OthersLocks (v .lock)
+  same-locks u ne p = (λ q. q, λ q. q)
+
   -- writer w goes on as x
-  continued : (x : Writer) (l : ℕ) (e : ℕ → ℕ) (c : ℕ → ℕ → ℕ → Option ℕ) (d : ℕ → ℕ → Option ℕ) → 0 < v .writer w .phase → x .ts ≡ v .writer w .ts
+  continued : (x : Writer) (l e : ℕ → ℕ) (c : ℕ → ℕ → ℕ → Option ℕ) (d : ℕ → ℕ → Option ℕ) → 0 < v .writer w .phase → x .ts ≡ v .writer w .ts
       → SharedKept v (afterPhase v w x l e c d)
       → ((u : ℕ) → u ≢ w → 0 < v .writer u .phase → c (v .writer u .group) (v .writer u .ts) ≡ v .cell (v .writer u .group) (v .writer u .ts))
       → ((u : ℕ) → u ≢ w → 0 < v .writer u .phase → d (v .writer u .ts) ≡ v .stored (v .writer u .ts))
       → ((u : ℕ) → u ≢ w → 4 < v .writer u .phase → e (v .writer u .key) ≡ v .entry (v .writer u .key))
-      → ((u : ℕ) → u ≢ w → (v .lock ≡ u + 1 → l ≡ u + 1) × (l ≡ u + 1 → v .lock ≡ u + 1))
+      → OthersLocks l
       → ((k : ℕ) → e k ≢ 0 → Bound (v .history) (upd (v .writer) w x) k)
       → WriterFacts (afterPhase v w x l e c d) w x → Kept v (afterPhase v w x l e c d)
   continued x l e c d busy ts shared cells kept entries lock bound facts =
@@ -42,8 +55,8 @@ module _ (v : View) (w : ℕ) (i : Invariant v) where
               stored = kept u ne;
               entry = entries u ne;
               made = λ m. m;
-              locks = lock u ne .0;
-              holds = lock u ne .1;
+              guards = λ p. lock u ne p .0;
+              holds = λ p. lock u ne p .1;
               latest = λ q s r. r;
             };
         own = facts;
@@ -58,36 +71,75 @@ module _ (v : View) (w : ℕ) (i : Invariant v) where
       still-bound v (v .history) w x (λ u ne. refl) (λ c m. m) (λ p is puts m. byPending w p is puts (rw (upd-same (v .writer) w x) (made m)))
       (i .bound k there)
 
-  -- only its own record changes
-  unshared : (x : Writer) → 0 < v .writer w .phase → x .ts ≡ v .writer w .ts → (v .writer w .made ≡ true → x .made ≡ true)
-      → WriterFacts (afterPhase v w x (v .lock) (v .entry) (v .cell) (v .stored)) w x → Kept v (afterPhase v w x (v .lock) (v .entry) (v .cell) (v .stored))
-  unshared x busy ts made =
-      continued x (v .lock) (v .entry) (v .cell) (v .stored) busy ts (unchanged v _ (omega arith) refl refl refl refl)
-      (λ u ne q. refl) (λ u ne q. refl) (λ u ne q. refl) (λ u ne. (λ q. q, λ q. q)) (still x made)
+  -- only its own record changes, and the locks
+  unshared : (x : Writer) (l : ℕ → ℕ) → 0 < v .writer w .phase → x .ts ≡ v .writer w .ts → (v .writer w .made ≡ true → x .made ≡ true) → OthersLocks l
+      → WriterFacts (afterPhase v w x l (v .entry) (v .cell) (v .stored)) w x → Kept v (afterPhase v w x l (v .entry) (v .cell) (v .stored))
+  unshared x l busy ts made lock =
+      continued x l (v .entry) (v .cell) (v .stored) busy ts (unchanged v _ refl (omega arith) refl refl refl refl)
+      (λ u ne q. refl) (λ u ne q. refl) (λ u ne q. refl) lock (still x made)
+
+  -- the newest completed timestamp of a group is above all others
+  all-below : (g b : ℕ) → Newest (v .completed) g (v .last) b → (s : ℕ) → v .completed s ≡ some g → s ≤ b
+  all-below g b newest s e =
+      let issued : ¬ (v .last < s) = λ p. none-some (i .above s p) e in
+      newest .most s (omega arith) e
 
   -- before the index step it has made no entry
   unmade : v .writer w .phase ≤ 4 → v .writer w .made ≢ true
   unmade early m = omega (arith, i .writer w .made m .past)
 
-  pub phase-keeps : {x : Writer} {l : ℕ} {e : ℕ → ℕ} {c : ℕ → ℕ → ℕ → Option ℕ} {d : ℕ → ℕ → Option ℕ}
+  -- the step at the writer's phase takes the lock that guards its group, if it is the one that does
+  module _ (unblocked : Unblocked v w (v .writer w)) where
+    abbrev x : Writer
+    x = v .writer w
+
+    others-locks : OthersLocks (locksTaken v w x)
+    others-locks = taken-other (takesLock (v .mode) x) (v .lock) (guardOf v x) w unblocked
+
+    own-lock : lockPhase (v .mode) ≤ x .phase → locksTaken v w x (guardOf v x) ≡ w + 1
+    own-lock from =
+        taken-own (takesLock (v .mode) x) (v .lock) (guardOf v x) w
+        (λ e. let ne : x .phase ≢ lockPhase (v .mode) = eqb-false _ _ e in i .writer w .guards (omega arith))
+
+    -- it holds no other one
+    only-lock : (p : ℕ) → locksTaken v w x p ≡ w + 1 → (lockPhase (v .mode) ≤ x .phase) × (p ≡ guardOf v x)
+    only-lock =
+        taken-holds (takesLock (v .mode) x) (v .lock) (guardOf v x) w
+        (λ e. let at : x .phase ≡ lockPhase (v .mode) = eqb-true _ _ e in (omega arith, refl))
+        (λ p e. let (from, is) = i .writer w .holds p e in (omega arith, is))
+
+  pub phase-keeps : {x : Writer} {l e : ℕ → ℕ} {c : ℕ → ℕ → ℕ → Option ℕ} {d : ℕ → ℕ → Option ℕ}
       → NextPhase v w (v .writer w) x l e c d → Kept v (afterPhase v w x l e c d)
   phase-keeps (looksUp g at) =
-      unshared _ (omega arith) refl (λ m. m)
-      (unwritten _ w _ (omega arith) (λ q. absurd (omega arith)) (λ q. i .writer w .inProgress (omega arith)) (λ q. absurd (omega arith))
-      (unmade (omega arith)) (λ q. omega (arith, i .writer w .holds q)))
-  phase-keeps (reads b at newest le) =
+      unshared _ _ (omega arith) refl (λ m. m) same-locks
+      (unread _ w _ (omega arith) (λ q. absurd (omega arith)) (λ q. i .writer w .inProgress (omega arith)) (unmade (omega arith))
+      (λ p q. omega (arith, i .writer w .holds p q, lock-phase (v .mode))))
+  phase-keeps (reads b at unblocked newest le) =
       let p = i .writer w .inProgress (omega arith) in
       let ne : b ≢ v .writer w .ts = λ q. none-some (p .uncompleted) (rw q at (newest .hit (omega (arith, p .positive)))) in
-      unshared _ (omega arith) refl (λ m. m)
-      (unwritten _ w _ (omega arith) (λ q. absurd (omega arith)) (λ q. p) (λ q. record { before = omega arith; hit = newest .hit })
-      (unmade (omega arith)) (λ q. omega (arith, i .writer w .holds q)))
+      unshared _ _ (omega arith) refl (λ m. m) (others-locks unblocked)
+      (record {
+        ready = λ q. absurd (omega arith);
+        inProgress = λ q. p;
+        based = λ q. record { before = omega arith; hit = newest .hit };
+        written = λ q. absurd (omega arith);
+        stored = λ q. absurd (omega arith);
+        indexed = λ q. absurd (omega arith);
+        made = λ m. absurd (unmade (omega arith) m);
+        guards = λ q. own-lock unblocked (omega arith);
+        holds = λ p q. let (from, is) = only-lock unblocked p q in (omega arith, is);
+        checks = λ q. absurd (omega arith);
+        latest = λ q r. all-below _ b newest;
+      })
   phase-keeps (writes at) =
       let x = v .writer w in
       let p = i .writer w .inProgress (omega arith) in
       let other = stored-other (v .cell) x in
       let otherwise = upd-other (v .stored) (x .ts) (rowsStored (v .cell) x) in
+      let phase = lock-phase (v .mode) in
       continued _ (v .lock) (v .entry) (storing (v .cell) x) (upd (v .stored) (x .ts) (rowsStored (v .cell) x)) (omega arith) refl
       (record {
+        mode = refl;
         last = omega arith;
         completed = λ s g e. e;
         newest = λ s g b e h. h;
@@ -96,8 +148,7 @@ module _ (v : View) (w : ℕ) (i : Invariant v) where
         stored = λ s g hit. otherwise s (λ q. none-some (p .uncompleted) (rw q at hit));
       })
       (λ u ne q. other (v .writer u .group) (v .writer u .ts) (λ _ r. ne (i .unique u w q (omega arith) r)))
-      (λ u ne q. otherwise (v .writer u .ts) (λ r. ne (i .unique u w q (omega arith) r))) (λ u ne q. refl) (λ u ne. (λ q. q, λ q. q))
-      (still _ (λ m. m))
+      (λ u ne q. otherwise (v .writer u .ts) (λ r. ne (i .unique u w q (omega arith) r))) (λ u ne q. refl) same-locks (still _ (λ m. m))
       (record {
         ready = λ q. absurd (omega arith);
         inProgress = λ q. p;
@@ -106,22 +157,26 @@ module _ (v : View) (w : ℕ) (i : Invariant v) where
         stored = λ q. upd-same (v .stored) (x .ts) (rowsStored (v .cell) x) ∙ sym (stored-own (v .cell) x);
         indexed = λ q. absurd (omega arith);
         made = λ m. absurd (unmade (omega arith) m);
-        locks = λ q. absurd (omega arith);
-        holds = λ q. absurd (omega (arith, i .writer w .holds q));
-        latest = λ q. absurd (omega arith);
+        guards = λ q. i .writer w .guards (omega (arith, phase));
+        holds = λ p q. let (from, is) = i .writer w .holds p q in (omega arith, is);
+        checks = λ q. absurd (omega arith);
+        latest = λ q r. i .writer w .latest (omega (arith, phase)) (omega arith);
       })
-  phase-keeps (indexes made at unlocked new found) =
+  phase-keeps (indexes made at unblocked new found) =
       let x = v .writer w in
       let e : ℕ → ℕ = upd (v .entry) (x .key) (x .group + 1) in
-      let y = moved (withMade x made) 5 (x .group) (x .base) in
+      let y = moved (withMade x made) (afterIndex (v .mode)) (x .group) (x .base) in
       let p = i .writer w .inProgress (omega arith) in
       let older = still y (λ m. absurd (unmade (omega arith) m)) in
+      let phase = lock-phase (v .mode) in
+      let after = after-index (v .mode) in
       -- an entry that is there stays
       let kept : (k : ℕ) → v .entry k ≢ 0 → e k ≡ v .entry k
       = upd-ind (v .entry) (x .key) (x .group + 1) (λ k m. v .entry k ≢ 0 → m ≡ v .entry k)
       (λ there. by-test made (λ m. absurd (there (new m .1))) (λ f. sym (found f))) (λ k ne there. refl) in
-      continued y (w + 1) e (v .cell) (v .stored) (omega arith) refl
+      continued y (locksTaken v w x) e (v .cell) (v .stored) (omega arith) refl
       (record {
+        mode = refl;
         last = omega arith;
         completed = λ s g q. q;
         newest = λ s g b q h. h;
@@ -130,7 +185,7 @@ module _ (v : View) (w : ℕ) (i : Invariant v) where
         stored = λ s g q. refl;
       })
       (λ u ne q. refl) (λ u ne q. refl) (λ u ne q. kept _ (λ none. omega (arith, i .writer u .indexed q)))
-      (λ u ne. (λ q. sym (unlocked (λ z. omega arith)) ∙ q, λ q. absurd (omega arith)))
+      (others-locks unblocked)
       (upd-ind (v .entry) (x .key) (x .group + 1) (λ k m. m ≢ 0 → Bound (v .history) (upd (v .writer) w y) k)
       (λ _.
       by-test made
@@ -150,15 +205,17 @@ module _ (v : View) (w : ℕ) (i : Invariant v) where
             λ m.
             record {
               put = new m .0;
-              past = omega arith;
+              past = after .0;
               new = λ s c is q. omega (arith, new m .1, ap (v .entry) q, i .committed s c is .indexed);
             };
-        locks = λ q. refl;
-        holds = λ q. omega arith;
-        latest = λ q. absurd (omega arith);
+        guards = λ q. own-lock unblocked (omega arith);
+        holds = λ p q. let (from, is) = only-lock unblocked p q in (omega arith, is);
+        checks = after .2;
+        latest = λ q r. i .writer w .latest (omega (arith, after .3 r)) (omega arith);
       })
   phase-keeps (checks b at newest le) =
-      unshared _ (omega arith) refl (λ m. m)
+      let phase = lock-phase (v .mode) in
+      unshared _ _ (omega arith) refl (λ m. m) same-locks
       (record {
         ready = λ q. absurd (omega arith);
         inProgress = λ q. i .writer w .inProgress (omega arith);
@@ -167,10 +224,8 @@ module _ (v : View) (w : ℕ) (i : Invariant v) where
         stored = λ q. i .writer w .stored (omega arith);
         indexed = λ q. i .writer w .indexed (omega arith);
         made = λ m. let h = i .writer w .made m in record { put = h .put; past = omega arith; new = h .new };
-        locks = λ q. i .writer w .locks (omega arith);
-        holds = λ q. omega arith;
-        latest =
-            λ q s e.
-            let issued : ¬ (v .last < s) = λ p. none-some (i .above s p) e in
-            omega (arith, newest .most s (omega arith) e);
+        guards = λ q. i .writer w .guards (omega arith);
+        holds = λ p q. let (from, is) = i .writer w .holds p q in (omega arith, is);
+        checks = λ q. absurd (omega arith);
+        latest = λ q r s e. omega (arith, all-below _ b newest s e);
       })

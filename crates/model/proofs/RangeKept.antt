@@ -1,8 +1,8 @@
 -- No table reached from a fresh one gives 17.
 --     step-in-range        a step leaves a state in range in range
 --     answer-in-range      a step on a state in range is not answered 17
---     fresh-in-range       the fresh state is in range
---     reached-in-range     a state reached from the fresh one is in range
+--     fresh-in-range       a fresh state is in range
+--     reached-in-range     a state reached from a fresh one is in range
 --     never-out-of-range   so no step there is answered 17
 use Prim.Native.Nat.{ℕ, _<_, _≤_}
 use native.Mathlib.Nat.{le-trans}
@@ -15,9 +15,10 @@ use Rattle.model.specs.Limits.{writers}
 use Rattle.model.specs.Answers.{outOfRange}
 use Rattle.common.specs.Counting.{eachBelow}
 use Rattle.model.specs.State.{State, ready, fresh}
-use Rattle.model.specs.Range.{writersInRange, indexInRange, instantsInRange, noneAbove, inRange}
+use Rattle.model.specs.Range.{writersInRange, locksInRange, indexInRange, instantsInRange, noneAbove, inRange}
 use Rattle.model.specs.Rules.{Outcome, act, Answered, updated, stepTested, step}
 use Rattle.model.specs.Isolation.{next, after}
+use Rattle.model.specs.declared.Mode.{Mode}
 use Rattle.model.specs.declared.Writer.{Writer}
 use Rattle.model.specs.declared.Step.{Step}
 use Rattle.common.proofs.Cases.{cond-iff, facts, set-ind}
@@ -45,21 +46,21 @@ module _ (st : State) (s : Step) (e : inRange st ≡ true) where
   step-in-range =
       let r : Ranged st = ranged st e in
       simp (cond-iff (λ (a : Answered). inRange (a .state) ≡ true), facts)
-      (λ _. e, λ _. (λ _. e, λ l. in-range _ (updated-ranged st (s .writer) (act _ _ _ _) r (act-sound _ _ _ _ .kept l (r .shared) (r .writer (s .writer) l)))))
+      (λ _. e, λ _. (λ _. e, λ l. in-range _ (updated-ranged st (s .writer) (act _ _ _ _ _) r (act-sound _ _ _ _ _ .kept l (r .shared) (r .writer (s .writer) l)))))
 
   pub answer-in-range : step st s .answer ≢ outOfRange
   unfolding step stepTested
   answer-in-range =
       simp (cond-iff (λ (a : Answered). a .answer ≢ outOfRange), facts)
-      (λ h. absurd (true≢false (sym e ∙ h)), λ _. (λ _. omega arith, λ _. act-sound _ _ _ (s .action) .answer))
+      (λ h. absurd (true≢false (sym e ∙ h)), λ _. (λ _. omega arith, λ _. act-sound _ _ _ _ (s .action) .answer))
 
-pub fresh-in-range : inRange fresh ≡ true
-unfolding inRange writersInRange indexInRange instantsInRange noneAbove eachBelow fresh
-fresh-in-range = refl
+pub fresh-in-range : (mode : Mode) → inRange (fresh mode) ≡ true
+unfolding inRange writersInRange locksInRange indexInRange instantsInRange noneAbove eachBelow fresh
+fresh-in-range mode = refl
 
-pub reached-in-range : (ss : List Step) → inRange (after ss .state) ≡ true
+pub reached-in-range : (mode : Mode) (ss : List Step) → inRange (after mode ss .state) ≡ true
 unfolding next
-reached-in-range ss = executed-keeps (λ u. inRange (u .state) ≡ true) (λ u s e. step-in-range (u .state) s e) _ ss fresh-in-range
+reached-in-range mode ss = executed-keeps (λ u. inRange (u .state) ≡ true) (λ u s e. step-in-range (u .state) s e) _ ss (fresh-in-range mode)
 
-pub never-out-of-range : (ss : List Step) (s : Step) → step (after ss .state) s .answer ≢ outOfRange
-never-out-of-range ss s = answer-in-range (after ss .state) s (reached-in-range ss)
+pub never-out-of-range : (mode : Mode) (ss : List Step) (s : Step) → step (after mode ss .state) s .answer ≢ outOfRange
+never-out-of-range mode ss s = answer-in-range (after mode ss .state) s (reached-in-range mode ss)

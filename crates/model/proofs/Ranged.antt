@@ -8,7 +8,7 @@ use mathlib.Core.Path.{_≡_}
 use lib.ListN.{getD}
 use Rattle.model.specs.Limits.{writers, keys, groups, timestamps, lastPhase}
 use Rattle.model.specs.State.{Shared, State, completed, ready}
-use Rattle.model.specs.Range.{writerInRange, writersInRange, indexInRange, instantsInRange, noneAbove, inRange}
+use Rattle.model.specs.Range.{writerInRange, writersInRange, locksInRange, indexInRange, instantsInRange, noneAbove, inRange}
 use Rattle.model.specs.declared.Writer.{Writer}
 use Rattle.common.proofs.EachBelow.{below-iff}
 use Rattle.common.proofs.Cases.{facts}
@@ -29,7 +29,7 @@ pub record InstantRanged (last i y : ℕ) : Type 0 where
 -- what all writers share
 pub record SharedRanged (s : Shared) : Type 0 where
   pub last : s .last ≤ timestamps
-  pub lock : s .lock ≤ writers
+  pub lock : (p : ℕ) → p < groups → getD (s .locks) p 0 ≤ writers
   pub entry : (k : ℕ) → k < keys → getD (s .index) k 0 ≤ groups
   pub instant : (i : ℕ) → i < timestamps → InstantRanged (s .last) i (getD (s .timeline) i 0)
 
@@ -48,7 +48,7 @@ module _ (last : ℕ) where
 
 module _ (st : State) where
   pub ranged : inRange st ≡ true → Ranged st
-  unfolding inRange writersInRange indexInRange instantsInRange noneAbove
+  unfolding inRange writersInRange locksInRange indexInRange instantsInRange noneAbove
   ranged e =
       let (last, (lock, (writer, (entry, (coded, above))))) = simp (facts, below-iff) at e in
       record {
@@ -63,7 +63,7 @@ module _ (st : State) where
       }
 
   pub in-range : Ranged st → inRange st ≡ true
-  unfolding inRange writersInRange indexInRange instantsInRange noneAbove
+  unfolding inRange writersInRange locksInRange indexInRange instantsInRange noneAbove
   in-range r =
       let s = r .shared in
       simp (facts, below-iff) (

@@ -50,9 +50,9 @@ wrongPhase = 14
 abbrev pub noTimestamp : ℕ
 noTimestamp = 15
 
--- another writer holds the lock, at an index step
-abbrev pub locked : ℕ
-locked = 16
+-- another writer holds the table lock, at an index step
+abbrev pub tableLocked : ℕ
+tableLocked = 16
 
 -- a number of the table is out of its range
 abbrev pub outOfRange : ℕ
@@ -61,6 +61,10 @@ outOfRange = 17
 -- the value is the erased word, in a put (document 02, Q-3)
 abbrev pub erasedValue : ℕ
 erasedValue = 18
+
+-- another writer holds the file group's lock, at a read step (document 02, Q-9)
+abbrev pub groupLocked : ℕ
+groupLocked = 19
 
 -- the rows of a scan do not fit
 abbrev pub noRoom : ℕ

@@ -14,6 +14,7 @@ use Rattle.model.specs.Snapshot.{scan, listed, instantAt}
 use Rattle.model.specs.History.{Pending, Committed, History, empty, recorded, listing}
 use Rattle.model.specs.declared.Action.{Action}
 use Rattle.model.specs.declared.Action.the-variants.{Start, LookUp, Read, Write, Index, Check, Commit, Abort}
+use Rattle.model.specs.declared.Mode.{Mode}
 use Rattle.model.specs.declared.Writer.{Writer}
 use Rattle.model.specs.declared.InstantState.{InstantState}
 use Rattle.model.specs.declared.InstantState.the-variants.{Refused, None, Requested, Inflight, Completed}
@@ -69,28 +70,28 @@ next u s = answeredBy u s (step (u .state) s)
 unfoldable pub executed : Execution → List Step → Execution
 executed u ss = foldl next u ss
 
--- a fresh table, with no history and no slice stored
-abbrev pub beginning : Execution
-beginning = record { state = fresh; history = empty; stored = λ n k. none }
+-- a fresh table of a mode, with no history and no slice stored
+abbrev pub beginning : Mode → Execution
+beginning mode = record { state = fresh mode; history = empty; stored = λ n k. none }
 
--- the table after a list of steps from a fresh one, with its history and the stored slices
-abbrev pub after : List Step → Execution
-after ss = executed beginning ss
+-- the table after a list of steps from a fresh one of a mode, with its history and the stored slices
+abbrev pub after : Mode → List Step → Execution
+after mode ss = executed (beginning mode) ss
 
 -- the slice that the write step of a committed operation stored (document 01, The book behind demand 3): the value of each key that has a row in it
 abbrev pub committedSlice : Execution → Committed → ℕ → Option ℕ
 committedSlice u c = u .stored (c .ts)
 
--- demand 3, after a list of steps
-pub record Isolated (ss : List Step) : Type 0 where
+-- demand 3, after a list of steps, for each mode (document 02, Q-9)
+pub record Isolated (mode : Mode) (ss : List Step) : Type 0 where
   -- a scan at any timestamp, with room for the history's listing, is not refused: it counts and stores these rows and leaves what stands behind them
-  pub lists : (t : ℕ) (buffer : List ℕ) → 3 * length (listing (after ss .history) t) ≤ length buffer
-      → scan (after ss .state) t buffer ≡ listed (listing (after ss .history) t) buffer
+  pub lists : (t : ℕ) (buffer : List ℕ) → 3 * length (listing (after mode ss .history) t) ≤ length buffer
+      → scan (after mode ss .state) t buffer ≡ listed (listing (after mode ss .history) t) buffer
   -- two committed slices that have a row of one key are of one file group
-  pub oneGroup : (c d : Committed) → List·Memᴰ c (after ss .history .done) → List·Memᴰ d (after ss .history .done) → (k u v : ℕ)
-      → committedSlice (after ss) c k ≡ some u → committedSlice (after ss) d k ≡ some v → c .group ≡ d .group
+  pub oneGroup : (c d : Committed) → List·Memᴰ c (after mode ss .history .done) → List·Memᴰ d (after mode ss .history .done) → (k u v : ℕ)
+      → committedSlice (after mode ss) c k ≡ some u → committedSlice (after mode ss) d k ≡ some v → c .group ≡ d .group
   -- if t is issued, and every operation in progress has a later timestamp, the scan at t gives this listing whatever steps follow
-  pub stays : (t : ℕ) → 1 ≤ t → t ≤ after ss .history .last
-      → ((w : ℕ) (p : Pending) → after ss .history .pending w ≡ some p → t < p .ts)
-      → (more : List Step) (buffer : List ℕ) → 3 * length (listing (after ss .history) t) ≤ length buffer
-      → scan (after (ss ++ more) .state) t buffer ≡ listed (listing (after ss .history) t) buffer
+  pub stays : (t : ℕ) → 1 ≤ t → t ≤ after mode ss .history .last
+      → ((w : ℕ) (p : Pending) → after mode ss .history .pending w ≡ some p → t < p .ts)
+      → (more : List Step) (buffer : List ℕ) → 3 * length (listing (after mode ss .history) t) ≤ length buffer
+      → scan (after mode (ss ++ more) .state) t buffer ≡ listed (listing (after mode ss .history) t) buffer

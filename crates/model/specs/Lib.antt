@@ -1,4 +1,5 @@
 pub mod Limits
+pub mod Modes
 pub mod State
 pub mod Rules
 pub mod Answers

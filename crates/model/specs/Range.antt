@@ -21,6 +21,10 @@ writerInRange last x = every (writerTests last x)
 unfoldable pub writersInRange : ℕ → List Writer → Bool
 writersInRange last xs = eachBelow writers (λ w. writerInRange last (getD xs w ready))
 
+-- each lock, in either mode: 0, or a writer + 1 (document 02, Q-9)
+unfoldable pub locksInRange : List ℕ → Bool
+locksInRange locks = eachBelow groups (λ g. leb (getD locks g 0) writers)
+
 -- an index entry: 0, or a file group + 1
 unfoldable pub indexInRange : List ℕ → Bool
 indexInRange index = eachBelow keys (λ k. leb (getD index k 0) groups)
@@ -38,7 +42,7 @@ unfoldable pub inRange : State → Bool
 inRange st =
     every
     (leb (st .shared .last) timestamps
-    ∷ leb (st .shared .lock) writers
+    ∷ locksInRange (st .shared .locks)
     ∷ writersInRange (st .shared .last) (st .writers)
     ∷ indexInRange (st .shared .index)
     ∷ instantsInRange (st .shared .timeline)

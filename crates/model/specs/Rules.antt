@@ -2,15 +2,17 @@
 -- The walk is the commit protocol of an operation.
 use Prim.Native.Nat.{ℕ, zero, suc, _+_, _-_}
 use mathlib.Core.Bool.{Bool, true, false, cond, not, _&&_}
-use mathlib.Core.List.{List}
+use mathlib.Core.List.{List, map}
 use lib.ListN.{getD, set}
 use lib.Dec.{eqb, ltb, leb}
 use Rattle.model.specs.Limits.{writers, keys, groups, timestamps, erasedWord}
 use Rattle.model.specs.Answers.{taken, committed, notIndexed, tooLate, otherGroup, groupChanged, aborted}
-use Rattle.model.specs.Answers.{noWriter, noKey, noGroup, wrongPhase, noTimestamp, locked, outOfRange, erasedValue}
+use Rattle.model.specs.Answers.{noWriter, noKey, noGroup, wrongPhase, noTimestamp, tableLocked, outOfRange, erasedValue, groupLocked}
+use Rattle.model.specs.Modes.{guard, lockPhase, afterIndex, mayCheck}
 use Rattle.model.specs.State.{Shared, State, ready, requested, inflight, completed, newest, rowAt, rowIn}
-use Rattle.model.specs.State.{withLast, withLock, withIndex, withTimeline, withPresent, withValues}
+use Rattle.model.specs.State.{withLast, withLocks, withIndex, withTimeline, withPresent, withValues}
 use Rattle.model.specs.Range.{inRange}
+use Rattle.model.specs.declared.Mode.{Mode}
 use Rattle.model.specs.declared.Writer.{Writer}
 use Rattle.model.specs.declared.Operation.{Operation}
 use Rattle.model.specs.declared.Operation.the-variants.{Put, Remove}
@@ -81,6 +83,18 @@ withSlice s x =
 abbrev pub namesOther : ℕ → ℕ → Bool
 namesOther e n = not (eqb e 0) && not (eqb e (n + 1))
 
+-- does the step that fits a writer's phase take the lock that guards its file group (document 02, Q-9)
+abbrev pub takesLock : Mode → Writer → Bool
+takesLock mode x = eqb (x .phase) (lockPhase mode)
+
+-- so it does for writer w, whose record is x, and another writer holds the lock
+abbrev pub blocked : Mode → Writer → ℕ → Shared → Bool
+blocked mode x w s = takesLock mode x && namesOther (getD (s .locks) (guard mode (x .group)) 0) w
+
+-- the locks after the step: the one that it takes, if it takes one, is set to l, which is w + 1 for writer w
+abbrev pub locking : Mode → Writer → ℕ → List ℕ → List ℕ
+locking mode x l locks = cond (takesLock mode x) (set locks (guard mode (x .group)) l) locks
+
 -- what a rule says of a step: it is refused with a number; or the operation ends with a number; or the writer goes on, as the record given.
 -- The last two come with the shared part after them
 pub data Verdict : Type 0 where
@@ -89,7 +103,7 @@ pub data Verdict : Type 0 where
   goesOn : Writer → Shared → Verdict
 
 -- The rules, in the order of document 01, A writer's walk. Each tests its refusals in the order of document 01, Answer numbers, with 18 between 13
--- and 14 (document 02, Q-3); 17 and 10 come before all rules, in `stepTested`.
+-- and 14 (document 02, Q-3) and 19 where 16 is (Q-9); 17 and 10 come before all rules, in `stepTested`.
 
 -- 1: the operation is judged, then a ready writer takes the next timestamp, whose instant is requested
 unfoldable pub start : Writer → Shared → Operation → Verdict
@@ -108,32 +122,35 @@ lookUp x s =
     (cond (x .put) (goesOn (moved x 2 (x .group) (x .base)) s) (ended notIndexed s)))
 
 -- 3: the base is the newest completed timestamp of the group, and the instant is inflight; a completed timestamp above the writer's own ends the
--- operation, and its instant stays as it is
-unfoldable pub readBase : Writer → Shared → Verdict
-readBase x s =
+-- operation, and its instant stays as it is. In a pessimistic table the group's lock is taken (document 02, Q-9)
+unfoldable pub readBase : Mode → Writer → ℕ → Shared → Verdict
+readBase mode x w s =
     cond (not (eqb (x .phase) 2)) (refused wrongPhase)
+    (cond (blocked mode x w s) (refused groupLocked)
     (cond (ltb (x .ts) (newestOf s (x .group))) (ended tooLate s)
-    (goesOn (moved x 3 (x .group) (newestOf s (x .group))) (withInstant s (x .ts) (inflight (x .group)))))
+    (goesOn (moved x 3 (x .group) (newestOf s (x .group)))
+    (withInstant (withLocks s (locking mode x (w + 1) (s .locks))) (x .ts) (inflight (x .group))))))
 
 -- 4: the slice of the writer's group and timestamp is stored; no read shows it while the instant is inflight
 unfoldable pub writeSlice : Writer → Shared → Verdict
 writeSlice x s = cond (not (eqb (x .phase) 3)) (refused wrongPhase) (goesOn (moved x 4 (x .group) (x .base)) (withSlice s x))
 
--- 5: the lock is taken; a key indexed to another group ends the operation, and so does a remove whose key is no longer indexed (document 02, Q-4).
--- Else the key is entered in the writer's group, which is where it is if it is indexed, and the writer notes whether it made the entry
-unfoldable pub enterIndex : Writer → ℕ → Shared → Verdict
-enterIndex x w s =
+-- 5: in an optimistic table the table lock is taken; a key indexed to another group ends the operation, and so does a remove whose key is no longer
+-- indexed (document 02, Q-4). Else the key is entered in the writer's group, which is where it is if it is indexed, and the writer notes whether it
+-- made the entry. A pessimistic table has no check to come (Q-9)
+unfoldable pub enterIndex : Mode → Writer → ℕ → Shared → Verdict
+enterIndex mode x w s =
     cond (not (eqb (x .phase) 4)) (refused wrongPhase)
-    (cond (namesOther (s .lock) w) (refused locked)
+    (cond (blocked mode x w s) (refused tableLocked)
     (cond (namesOther (entryOf s (x .key)) (x .group)) (ended otherGroup s)
     (cond (not (x .put) && eqb (entryOf s (x .key)) 0) (ended notIndexed s)
-    (goesOn (moved (withMade x (eqb (entryOf s (x .key)) 0)) 5 (x .group) (x .base))
-    (withLock (withIndex s (set (s .index) (x .key) (x .group + 1))) (w + 1))))))
+    (goesOn (moved (withMade x (eqb (entryOf s (x .key)) 0)) (afterIndex mode) (x .group) (x .base))
+    (withLocks (withIndex s (set (s .index) (x .key) (x .group + 1))) (locking mode x (w + 1) (s .locks)))))))
 
 -- 6: a completed timestamp of the group above the base ends the operation
-unfoldable pub checkConflict : Writer → Shared → Verdict
-checkConflict x s =
-    cond (not (eqb (x .phase) 5)) (refused wrongPhase)
+unfoldable pub checkConflict : Mode → Writer → Shared → Verdict
+checkConflict mode x s =
+    cond (not (mayCheck mode (x .phase))) (refused wrongPhase)
     (cond (ltb (x .base) (newestOf s (x .group))) (ended groupChanged s) (goesOn (moved x 6 (x .group) (x .base)) s))
 
 -- 7: the instant is completed in the writer's group
@@ -145,15 +162,15 @@ unfoldable pub abort : Writer → Shared → Verdict
 abort x s = cond (eqb (x .phase) 0) (refused wrongPhase) (ended aborted s)
 
 -- the rule of an action of writer w, whose own record is x
-unfoldable pub ruled : Writer → ℕ → Shared → Action → Verdict
-ruled x w s (Start op) = start x s op
-ruled x w s LookUp = lookUp x s
-ruled x w s Read = readBase x s
-ruled x w s Write = writeSlice x s
-ruled x w s Index = enterIndex x w s
-ruled x w s Check = checkConflict x s
-ruled x w s Commit = commit x s
-ruled x w s Abort = abort x s
+unfoldable pub ruled : Mode → Writer → ℕ → Shared → Action → Verdict
+ruled mode x w s (Start op) = start x s op
+ruled mode x w s LookUp = lookUp x s
+ruled mode x w s Read = readBase mode x w s
+ruled mode x w s Write = writeSlice x s
+ruled mode x w s Index = enterIndex mode x w s
+ruled mode x w s Check = checkConflict mode x s
+ruled mode x w s Commit = commit x s
+ruled mode x w s Abort = abort x s
 
 -- the answer to an action, with the writer and the shared part after it
 pub record Outcome : Type 0 where
@@ -168,15 +185,19 @@ outcome n x s = record { answer = n; writer = x; shared = s }
 abbrev pub released : ℕ → ℕ → ℕ
 released l w = cond (eqb l (w + 1)) 0 l
 
+-- the locks after writer w has let go of each that it holds (document 02, Q-9)
+abbrev pub freed : ℕ → List ℕ → List ℕ
+freed w locks = map (λ l. released l w) locks
+
 -- the index after an operation on key k has ended with the answer n: the entry is taken out again if the operation made it, unless it has committed;
 -- one that was there before stays (document 02, Q-4)
 abbrev pub withdrawn : ℕ → Bool → ℕ → List ℕ → List ℕ
 withdrawn n made k index = cond (not (eqb n committed) && made) (set index k 0) index
 
--- every operation ends here, committed or not: the lock is freed if held, the writer is ready, the instant stays (document 01, A writer's walk, end),
--- and the index entry that it made is withdrawn, unless it has committed
+-- every operation ends here, committed or not: each lock that its writer holds is freed, the writer is ready, the instant stays (document 01, A writer's
+-- walk, end), and the index entry that it made is withdrawn, unless it has committed
 abbrev pub closed : ℕ → Writer → ℕ → Shared → Outcome
-closed n x w s = outcome n ready (withLock (withIndex s (withdrawn n (x .made) (x .key) (s .index))) (released (s .lock) w))
+closed n x w s = outcome n ready (withLocks (withIndex s (withdrawn n (x .made) (x .key) (s .index))) (freed w (s .locks)))
 
 -- a verdict carried out: refused, nothing changes
 abbrev pub carried : Writer → ℕ → Shared → Verdict → Outcome
@@ -185,8 +206,8 @@ carried x w s (ended n t) = closed n x w t
 carried x w s (goesOn y t) = outcome taken y t
 
 -- the action of writer w, whose own record is x
-unfoldable pub act : Writer → ℕ → Shared → Action → Outcome
-act x w s a = carried x w s (ruled x w s a)
+unfoldable pub act : Mode → Writer → ℕ → Shared → Action → Outcome
+act mode x w s a = carried x w s (ruled mode x w s a)
 
 -- an answer, and the state after it
 pub record Answered : Type 0 where
@@ -198,7 +219,7 @@ answered n st = record { answer = n; state = st }
 
 -- the outcome of writer w's action in the whole state
 abbrev pub updated : State → ℕ → Outcome → Answered
-updated st w o = answered (o .answer) (record { shared = o .shared; writers = set (st .writers) w (o .writer) })
+updated st w o = answered (o .answer) (record { mode = st .mode; shared = o .shared; writers = set (st .writers) w (o .writer) })
 
 -- the record of writer w
 abbrev pub writerOf : State → ℕ → Writer
@@ -209,7 +230,7 @@ unfoldable pub stepTested : Bool → State → Step → Answered
 stepTested tested st s =
     cond (not tested) (answered outOfRange st)
     (cond (leb writers (s .writer)) (answered noWriter st)
-    (updated st (s .writer) (act (writerOf st (s .writer)) (s .writer) (st .shared) (s .action))))
+    (updated st (s .writer) (act (st .mode) (writerOf st (s .writer)) (s .writer) (st .shared) (s .action))))
 
 -- one step
 unfoldable pub step : State → Step → Answered

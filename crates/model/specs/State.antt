@@ -6,19 +6,22 @@ use mathlib.Core.Option.{Option, none, some}
 use lib.ListN.{getD, replicate}
 use lib.Dec.{eqb, ltb}
 use Rattle.model.specs.Limits.{writers, keys, groups, timestamps, rows}
+use Rattle.model.specs.declared.Mode.{Mode}
 use Rattle.model.specs.declared.Writer.{Writer}
 use Rattle.model.specs.declared.Table.{Table}
 
 -- what all writers share; a file slice is kept by its file group and timestamp
 pub record Shared : Type 0 where
   pub last : ℕ  -- the last timestamp issued
-  pub lock : ℕ  -- 0: free; w + 1: held by writer w
+  pub locks : List ℕ  -- one for each file group: 0, free, or w + 1, held by writer w; an optimistic table uses the first
   pub index : List ℕ  -- of each key: 0, or its file group + 1
   pub timeline : List ℕ  -- the instant of timestamp n, at n - 1
   pub present : List Bool  -- has the slice of group g and timestamp n a row of key k, at `rowAt g n k`
   pub values : List ℕ  -- and the row's value
 
+-- the mode stands beside what a rule may change, so that no step changes it (document 02, Q-9)
 pub record State : Type 0 where
+  pub mode : Mode
   pub shared : Shared
   pub writers : List Writer
 
@@ -26,7 +29,8 @@ pub record State : Type 0 where
 abbrev pub stateOf : Table → List Bool → List ℕ → State
 stateOf t present values =
     record {
-      shared = record { last = t .last; lock = t .lock; index = t .index; timeline = t .timeline; present = present; values = values };
+      mode = t .mode;
+      shared = record { last = t .last; locks = t .locks; index = t .index; timeline = t .timeline; present = present; values = values };
       writers = t .writers;
     }
 
@@ -34,14 +38,16 @@ stateOf t present values =
 abbrev pub ready : Writer
 ready = record { phase = 0; put = false; made = false; key = 0; group = 0; ts = 0; base = 0; value = 0 }
 
--- a fresh table: nothing issued, indexed or locked, and all writers ready (document 01, What the engine holds); no row is present, each value is 0
-unfoldable pub fresh : State
-fresh =
+-- a fresh table of a mode: nothing issued, indexed or locked, and all writers ready (document 01, What the engine holds); no row is present, each
+-- value is 0
+unfoldable pub fresh : Mode → State
+fresh mode =
     record {
+      mode = mode;
       shared =
           record {
             last = 0;
-            lock = 0;
+            locks = replicate groups 0;
             index = replicate keys 0;
             timeline = replicate timestamps 0;
             present = replicate rows false;
@@ -79,19 +85,19 @@ cell present values g n k = cond (ltb g groups && (ltb k keys && rowIn false pre
 
 -- the shared part with one field changed, a setter for each field: every change of it goes through these
 abbrev pub withLast : Shared → ℕ → Shared
-withLast s v = record { last = v; lock = s .lock; index = s .index; timeline = s .timeline; present = s .present; values = s .values }
+withLast s v = record { last = v; locks = s .locks; index = s .index; timeline = s .timeline; present = s .present; values = s .values }
 
-abbrev pub withLock : Shared → ℕ → Shared
-withLock s v = record { last = s .last; lock = v; index = s .index; timeline = s .timeline; present = s .present; values = s .values }
+abbrev pub withLocks : Shared → List ℕ → Shared
+withLocks s v = record { last = s .last; locks = v; index = s .index; timeline = s .timeline; present = s .present; values = s .values }
 
 abbrev pub withIndex : Shared → List ℕ → Shared
-withIndex s v = record { last = s .last; lock = s .lock; index = v; timeline = s .timeline; present = s .present; values = s .values }
+withIndex s v = record { last = s .last; locks = s .locks; index = v; timeline = s .timeline; present = s .present; values = s .values }
 
 abbrev pub withTimeline : Shared → List ℕ → Shared
-withTimeline s v = record { last = s .last; lock = s .lock; index = s .index; timeline = v; present = s .present; values = s .values }
+withTimeline s v = record { last = s .last; locks = s .locks; index = s .index; timeline = v; present = s .present; values = s .values }
 
 abbrev pub withPresent : Shared → List Bool → Shared
-withPresent s v = record { last = s .last; lock = s .lock; index = s .index; timeline = s .timeline; present = v; values = s .values }
+withPresent s v = record { last = s .last; locks = s .locks; index = s .index; timeline = s .timeline; present = v; values = s .values }
 
 abbrev pub withValues : Shared → List ℕ → Shared
-withValues s v = record { last = s .last; lock = s .lock; index = s .index; timeline = s .timeline; present = s .present; values = v }
+withValues s v = record { last = s .last; locks = s .locks; index = s .index; timeline = s .timeline; present = s .present; values = v }

@@ -1,4 +1,4 @@
-// The answer numbers of document 01, and 18 of document 02; specs/Answers.antt has the same.
+// The answer numbers of document 01, and 18 and 19 of document 02; specs/Answers.antt has the same.
 pub const TAKEN: u8 = 0;
 
 pub const COMMITTED: u8 = 1;
@@ -23,10 +23,12 @@ pub const WRONG_PHASE: u8 = 14;
 
 pub const NO_TIMESTAMP: u8 = 15;
 
-pub const LOCKED: u8 = 16;
+pub const TABLE_LOCKED: u8 = 16;
 
 pub const OUT_OF_RANGE: u8 = 17;
 
 pub const ERASED_VALUE: u8 = 18;
+
+pub const GROUP_LOCKED: u8 = 19;
 
 pub const NO_ROOM: u8 = 31;

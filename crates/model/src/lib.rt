@@ -4,6 +4,7 @@ pub mod instants;
 pub mod limits;
 
 use common::Word;
+use limits::GROUPS;
 use limits::KEYS;
 use limits::TIMESTAMPS;
 use limits::WRITERS;
@@ -24,12 +25,20 @@ pub struct Writer {
     pub value: Value,
 }
 
+// How a table keeps its writers apart: by one lock and a check before the commit, or by a lock for each file group.
+pub enum Mode {
+    Optimistic,
+    Pessimistic,
+}
+
 // The metadata of a table. Its rows are two arrays that stand beside it.
 pub struct Table {
+    // Chosen for good when the table is made.
+    pub mode: Mode,
     // The last timestamp issued.
     pub last: u8,
-    // 0: free; w + 1: held by writer w.
-    pub lock: u8,
+    // 0: free; w + 1: held by writer w. An optimistic table has one lock, the first; a pessimistic one has a lock for each file group.
+    pub locks: [u8; GROUPS],
     pub writers: [Writer; WRITERS],
     // Of each key: 0, or its file group + 1.
     pub index: [u8; KEYS],

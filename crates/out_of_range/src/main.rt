@@ -1,10 +1,12 @@
 // Answer 17, ground by ground: a table with every number at its largest, then with one number out of range.
+use model::Mode;
 use model::Table;
 use model::Value;
 use model::Writer;
 use model::instants::COMPLETED;
 use model::instants::NONE;
 use model::instants::REQUESTED;
+use model::limits::GROUPS;
 use model::limits::KEYS;
 use model::limits::ROWS;
 use model::limits::TIMESTAMPS;
@@ -46,9 +48,9 @@ fn writer(phase: u8, key: u8, group: u8, ts: u8, base: u8) -> Writer {
     }
 }
 
-// A table with the largest numbers but for these: the last timestamp, the lock, the last key's entry, the last instant, the last writer, and the
+// An optimistic table with the largest numbers but for these: the last timestamp, the last key's entry, the last instant, the last writer, and the
 // writers before it.
-fn table_of(last: u8, lock: u8, entry: u8, instant: u8, writer: Writer, others: Writer) -> Table {
+fn table_of(last: u8, entry: u8, instant: u8, writer: Writer, others: Writer) -> Table {
     let mut index = [ENTRY; KEYS];
     let mut timeline = [INSTANT; TIMESTAMPS];
     let mut writers = [others; WRITERS];
@@ -56,8 +58,9 @@ fn table_of(last: u8, lock: u8, entry: u8, instant: u8, writer: Writer, others: 
     timeline[TIMESTAMPS - 1] = instant;
     writers[WRITERS - 1] = writer;
     Table {
+        mode: Mode::Optimistic,
         last,
-        lock,
+        locks: [LOCK; GROUPS],
         writers,
         index,
         timeline,
@@ -97,26 +100,66 @@ fn tried(title: &[u8], t: Table) {
     instant(t, LAST as u64);
 }
 
+// A table of a mode with the largest numbers but for its locks.
+fn with_locks(mode: Mode, locks: [u8; GROUPS]) -> Table {
+    Table {
+        mode,
+        last: LAST,
+        locks,
+        writers: [writer(PHASE, KEY, GROUP, LAST, LAST); WRITERS],
+        index: [ENTRY; KEYS],
+        timeline: [INSTANT; TIMESTAMPS],
+    }
+}
+
 fn of_the_table() {
     let x = writer(PHASE, KEY, GROUP, LAST, LAST);
     let y = writer(PHASE, KEY, GROUP, LAST - 1, LAST - 1);
-    tried(b"17: no ground", table_of(LAST, LOCK, ENTRY, INSTANT, x, x));
+    tried(b"17: no ground", table_of(LAST, ENTRY, INSTANT, x, x));
     tried(
         b"17: last timestamp",
-        table_of(LAST + 1, LOCK, ENTRY, INSTANT, x, x),
+        table_of(LAST + 1, ENTRY, INSTANT, x, x),
     );
-    tried(b"17: lock", table_of(LAST, LOCK + 1, ENTRY, INSTANT, x, x));
-    tried(
-        b"17: index entry",
-        table_of(LAST, LOCK, ENTRY + 1, INSTANT, x, x),
-    );
+    let mut locks = [LOCK; GROUPS];
+    locks[0] = LOCK + 1;
+    tried(b"17: lock", with_locks(Mode::Optimistic, locks));
+    tried(b"17: index entry", table_of(LAST, ENTRY + 1, INSTANT, x, x));
     tried(
         b"17: group of an instant",
-        table_of(LAST, LOCK, ENTRY, INSTANT + 1, x, x),
+        table_of(LAST, ENTRY, INSTANT + 1, x, x),
     );
     tried(
         b"17: instant above the last timestamp",
-        table_of(LAST - 1, LOCK, ENTRY, REQUESTED, y, y),
+        table_of(LAST - 1, ENTRY, REQUESTED, y, y),
+    );
+}
+
+// Every lock has the same limit, in either mode.
+fn of_a_lock() {
+    let all = [LOCK; GROUPS];
+    let mut first = all;
+    let mut fourth = all;
+    let mut last = all;
+    first[0] = LOCK + 1;
+    fourth[3] = LOCK + 1;
+    last[7] = LOCK + 1;
+    tried(b"17: lock 3", with_locks(Mode::Optimistic, fourth));
+    tried(b"17: lock 7", with_locks(Mode::Optimistic, last));
+    tried(
+        b"17: no ground, pessimistic",
+        with_locks(Mode::Pessimistic, all),
+    );
+    tried(
+        b"17: lock 0, pessimistic",
+        with_locks(Mode::Pessimistic, first),
+    );
+    tried(
+        b"17: lock 3, pessimistic",
+        with_locks(Mode::Pessimistic, fourth),
+    );
+    tried(
+        b"17: lock 7, pessimistic",
+        with_locks(Mode::Pessimistic, last),
     );
 }
 
@@ -124,7 +167,6 @@ fn of_the_table() {
 fn with_writer(x: Writer) -> Table {
     table_of(
         LAST,
-        LOCK,
         ENTRY,
         INSTANT,
         x,
@@ -136,7 +178,6 @@ fn with_writer(x: Writer) -> Table {
 fn one_left_with_writer(x: Writer) -> Table {
     table_of(
         LAST - 1,
-        LOCK,
         ENTRY,
         NONE,
         x,
@@ -206,7 +247,7 @@ fn back_in_range() {
     let mut present = [false; ROWS];
     let mut values: [Value; ROWS] = [0; ROWS];
     let mut places = [99u8; 4];
-    let mut t = table::fresh(&mut present, &mut values);
+    let mut t = table::fresh(Mode::Optimistic, &mut present, &mut values);
     t.last = LAST + 1;
     report::title(b"Out of range");
     let ran = run_printed(
@@ -228,6 +269,7 @@ fn back_in_range() {
 
 fn main() {
     of_the_table();
+    of_a_lock();
     of_a_writer();
     of_a_ready_writer();
     back_in_range();

@@ -3,6 +3,7 @@ ghost use Rattle.replay.specs.Within.{within};
 use libc::STDERR_FILENO;
 use libc::STDIN_FILENO;
 use libc::STDOUT_FILENO;
+use model::Mode;
 use transcript::MAX_LOG;
 use transcript::MAX_TEXT;
 
@@ -52,6 +53,6 @@ fn main() {
         return;
     };
     let mut text = [0u8; MAX_TEXT];
-    let length = transcript::transcribe(&input[..size], &mut text);
+    let length = transcript::transcribe(Mode::Optimistic, &input[..size], &mut text);
     io::write_all(STDOUT_FILENO, &text[..length]);
 }

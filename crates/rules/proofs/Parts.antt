@@ -21,12 +21,12 @@ actor st w e l = let r = ranged st e in rw (le-leb _ _ (r .shared .last), writer
 
 -- a record stored where it stands changes nothing
 same : (st : State) (w n : ℕ) → updated st w (outcome n (getD (st .writers) w ready) (st .shared)) ≡ answered n st
-same st w n = ap (λ ws. answered n (record { shared = st .shared; writers = ws })) (set-getD (st .writers) w ready)
+same st w n = ap (λ ws. answered n (record { mode = st .mode; shared = st .shared; writers = ws })) (set-getD (st .writers) w ready)
 
 module _ (st : State) (s : Step) where
   -- the step on the parts, and its outcome in the whole state
   abbrev onParts : Answered
-  onParts = updated st (slotOf (s .writer)) (actOnParts (inRange st) (getD (st .writers) (slotOf (s .writer)) ready) (st .shared) s)
+  onParts = updated st (slotOf (s .writer)) (actOnParts (st .mode) (inRange st) (getD (st .writers) (slotOf (s .writer)) ready) (st .shared) s)
 
   pub parts-step : onParts ≡ step st s
   unfolding step stepTested actOnParts

@@ -5,7 +5,7 @@ use mathlib.Core.Bool.{Bool}
 use denote.Ref.{RefT, now}
 use denote.Triple.Both.{Both}
 use Rattle.common.specs.Lent.{Lent}
-use Rattle.model.specs.State.{Shared, withLast, withLock, withIndex, withTimeline, withPresent, withValues}
+use Rattle.model.specs.State.{Shared, withLast, withLocks, withIndex, withTimeline, withPresent, withValues}
 
 -- a shared part with the fields that a call takes, as they are when it begins and when it ends
 pub record Fields : Type 0 where
@@ -27,7 +27,7 @@ abbrev pub together : Fields → Fields → Fields
 together a b = record { before = λ s. b .before (a .before s); after = λ s. b .after (a .after s) }
 
 -- all fields that a step may change
-abbrev pub allFields : Both (RefT ℕ) (RefT ℕ) → Both (RefT ℕ) (RefT ℕ) → Lent ℕ → Lent ℕ → Lent Bool → Lent ℕ → Fields
-allFields last lock index timeline present values =
-    together (together (changing withLast last) (changing withLock lock))
+abbrev pub allFields : Both (RefT ℕ) (RefT ℕ) → Lent ℕ → Lent ℕ → Lent ℕ → Lent Bool → Lent ℕ → Fields
+allFields last locks index timeline present values =
+    together (together (changing withLast last) (changing withLocks locks))
     (together (together (changing withIndex index) (changing withTimeline timeline)) (together (changing withPresent present) (changing withValues values)))

@@ -8,6 +8,7 @@ use Rattle.model.specs.Limits.{writers}
 use Rattle.model.specs.Answers.{noWriter, outOfRange}
 use Rattle.model.specs.State.{Shared}
 use Rattle.model.specs.Rules.{Outcome, outcome, act}
+use Rattle.model.specs.declared.Mode.{Mode}
 use Rattle.model.specs.declared.Writer.{Writer}
 use Rattle.model.specs.declared.Step.{Step}
 use Rattle.metadata.specs.Actor.{actorInRange}
@@ -23,13 +24,13 @@ pub record Slot (w r : ℕ) : Type 0 where
   pub is : r ≡ slotOf w
   pub small : r < writers
 
--- a step on the parts of a table, where `tested` is the result of its range test and x stands at the writer's place: 17, 10, then the action
--- (document 01, Answer numbers). An actor that is out of range although `tested` says otherwise is answered 17 too
-unfoldable pub actOnParts : Bool → Writer → Shared → Step → Outcome
-actOnParts tested x s p =
+-- a step on the parts of a table of a mode, where `tested` is the result of its range test and x stands at the writer's place: 17, 10, then the
+-- action (document 01, Answer numbers). An actor that is out of range although `tested` says otherwise is answered 17 too
+unfoldable pub actOnParts : Mode → Bool → Writer → Shared → Step → Outcome
+actOnParts mode tested x s p =
     cond (not tested) (outcome outOfRange x s)
     (cond (leb writers (p .writer)) (outcome noWriter x s)
-    (cond (not (actorInRange (s .last) x)) (outcome outOfRange x s) (act x (p .writer) s (p .action))))
+    (cond (not (actorInRange (s .last) x)) (outcome outOfRange x s) (act mode x (p .writer) s (p .action))))
 
 -- what an action gave, with the shared part after it
 abbrev pub outcomeOf : Acted → Shared → Outcome

@@ -5,16 +5,23 @@ ghost use mathlib.Core.Bool.{not, _&&_};
 ghost use Prim.Native.Nat.{_<_};
 ghost use lib.Dec.{eqb};
 ghost use Rattle.model.specs.Limits.{writers, keys, groups};
-ghost use Rattle.model.specs.State.{withLast, withLock, withIndex, withTimeline, withPresent, withValues};
+ghost use Rattle.model.specs.State.{withLast, withLocks, withIndex, withTimeline, withPresent, withValues};
 ghost use Rattle.model.specs.State as state;
 ghost use Rattle.model.specs.Rules as rules;
 ghost use Rattle.rules.specs.Fields.{noField, reading, changing, together, allFields};
 ghost use Rattle.rules.specs.Inner.{Bounds, Follows, CarriesOut};
 use common::Word;
+use locks::after_index;
+use locks::blocked;
+use locks::free_locks;
+use locks::may_check;
+use locks::names_other;
+use locks::take_lock;
 use metadata::Search;
 use metadata::newest_above;
 use metadata::newest_of;
 use model::Action;
+use model::Mode;
 use model::Operation;
 use model::Value;
 use model::Writer;
@@ -22,12 +29,13 @@ use model::answers::ABORTED;
 use model::answers::COMMITTED;
 use model::answers::ERASED_VALUE;
 use model::answers::GROUP_CHANGED;
-use model::answers::LOCKED;
+use model::answers::GROUP_LOCKED;
 use model::answers::NO_GROUP;
 use model::answers::NO_KEY;
 use model::answers::NO_TIMESTAMP;
 use model::answers::NOT_INDEXED;
 use model::answers::OTHER_GROUP;
+use model::answers::TABLE_LOCKED;
 use model::answers::TAKEN;
 use model::answers::TOO_LATE;
 use model::answers::WRONG_PHASE;
@@ -223,18 +231,32 @@ fn look_up(x: Writer, index: &[u8; KEYS]) -> Verdict
     Verdict::Ended(NOT_INDEXED)
 }
 
-// 3. Read: the base is the file group's newest completed timestamp, unless that is above the writer's own; the instant is inflight.
-fn read_base(x: Writer, last: u8, timeline: &mut [u8; TIMESTAMPS]) -> Verdict
-    requires { ⌜ Bounds x ⌝ }
-    ensures { λ r. ⌜ Follows x r (together (reading withLast last) (changing withTimeline timeline)) (rules.readBase x) ⌝ }
+// 3. Read: the base is the file group's newest completed timestamp, unless that is above the writer's own; the instant is inflight. In a pessimistic
+// table writer w takes the group's lock, unless it is another writer's.
+fn read_base(
+    mode: Mode,
+    x: Writer,
+    w: u8,
+    last: u8,
+    locks: &mut [u8; GROUPS],
+    timeline: &mut [u8; TIMESTAMPS],
+) -> Verdict
+    requires { ⌜ (w < writers) × Bounds x ⌝ }
+    ensures { λ r. ⌜ Follows x r (together (reading withLast last) (together (changing withLocks locks) (changing withTimeline timeline))) (rules.readBase mode x w) ⌝ }
 {
     if x.phase != 2 {
         return Verdict::Refused(WRONG_PHASE);
     }
+    let locked = blocked(mode, x, w, &*locks);
     let base = newest_of(&*timeline, x.group, last);
-    if x.ts < base {
+    let late = x.ts < base;
+    if locked {
+        return Verdict::Refused(GROUP_LOCKED);
+    }
+    if late {
         return Verdict::Ended(TOO_LATE);
     }
+    take_lock(mode, x, w + 1, &mut *locks);
     let slot = (x.ts - 1) as usize;
     timeline[slot] = INFLIGHT + x.group;
     Verdict::GoesOn(moved(x, 3, x.group, base))
@@ -252,17 +274,6 @@ fn write_slice(x: Writer, present: &mut [bool; ROWS], values: &mut [Value; ROWS]
     Verdict::GoesOn(moved(x, 4, x.group, x.base))
 }
 
-// Does a lock or an index entry, 0 for none and n + 1 for n, name another than n?
-fn names_other(entry: u8, n: u8) -> bool
-    requires { ⌜ n < 255 ⌝ }
-    ensures { λ r. ⌜ r ≡ rules.namesOther entry n ⌝ }
-{
-    if entry == 0 {
-        return false;
-    }
-    entry != n + 1
-}
-
 // Is it a remove, of a key without an index entry?
 fn removes_unindexed(put: bool, entry: u8) -> bool
     ensures { λ r. ⌜ r ≡ (not put && eqb entry 0) ⌝ }
@@ -273,18 +284,23 @@ fn removes_unindexed(put: bool, entry: u8) -> bool
     entry == 0
 }
 
-// 5. Index: writer w takes the lock and enters its key, unless the lock is another writer's, the key another group's, or a remove's key no longer
-// indexed. It notes whether it has made the entry.
-fn enter_index(x: Writer, w: u8, lock: &mut u8, index: &mut [u8; KEYS]) -> Verdict
+// 5. Index: writer w enters its key, unless the key is another group's, or a remove's key no longer indexed. It notes whether it has made the entry.
+// In an optimistic table it takes the table lock, unless that is another writer's.
+fn enter_index(
+    mode: Mode,
+    x: Writer,
+    w: u8,
+    locks: &mut [u8; GROUPS],
+    index: &mut [u8; KEYS],
+) -> Verdict
     requires { ⌜ (w < writers) × Bounds x ⌝ }
-    ensures { λ r. ⌜ Follows x r (together (changing withLock lock) (changing withIndex index)) (rules.enterIndex x w) ⌝ }
+    ensures { λ r. ⌜ Follows x r (together (changing withLocks locks) (changing withIndex index)) (rules.enterIndex mode x w) ⌝ }
 {
     if x.phase != 4 {
         return Verdict::Refused(WRONG_PHASE);
     }
-    let held = *lock;
-    if names_other(held, w) {
-        return Verdict::Refused(LOCKED);
+    if blocked(mode, x, w, &*locks) {
+        return Verdict::Refused(TABLE_LOCKED);
     }
     let key = x.key as usize;
     let entry = index[key];
@@ -295,15 +311,15 @@ fn enter_index(x: Writer, w: u8, lock: &mut u8, index: &mut [u8; KEYS]) -> Verdi
         return Verdict::Ended(NOT_INDEXED);
     }
     index[key] = x.group + 1;
-    *lock = w + 1;
-    Verdict::GoesOn(moved(with_made(x, entry == 0), 5, x.group, x.base))
+    take_lock(mode, x, w + 1, &mut *locks);
+    Verdict::GoesOn(moved(with_made(x, entry == 0), after_index(mode), x.group, x.base))
 }
 
 // 6. Check: nothing was completed in the file group above the base.
-fn check_conflict(x: Writer, last: u8, timeline: &[u8; TIMESTAMPS]) -> Verdict
-    ensures { λ r. ⌜ Follows x r (together (reading withLast last) (reading withTimeline (now (timeline .entry)))) (rules.checkConflict x) ⌝ }
+fn check_conflict(mode: Mode, x: Writer, last: u8, timeline: &[u8; TIMESTAMPS]) -> Verdict
+    ensures { λ r. ⌜ Follows x r (together (reading withLast last) (reading withTimeline (now (timeline .entry)))) (rules.checkConflict mode x) ⌝ }
 {
-    if x.phase != 5 {
+    if !may_check(mode, x.phase) {
         return Verdict::Refused(WRONG_PHASE);
     }
     match newest_above(timeline, x.group, x.base, last) {
@@ -340,37 +356,30 @@ fn abort(x: Writer) -> Verdict
 
 // The verdict of the rules on an action of writer w, whose own record is x.
 pub fn decide(
+    mode: Mode,
     x: Writer,
     w: u8,
     action: Action,
     last: &mut u8,
-    lock: &mut u8,
+    locks: &mut [u8; GROUPS],
     index: &mut [u8; KEYS],
     timeline: &mut [u8; TIMESTAMPS],
     present: &mut [bool; ROWS],
     values: &mut [Value; ROWS],
 ) -> Verdict
     requires { ⌜ (w < writers) × Bounds x ⌝ }
-    ensures { λ r. ⌜ Follows x r (allFields last lock index timeline present values) (λ s. rules.ruled x w s action) ⌝ }
+    ensures { λ r. ⌜ Follows x r (allFields last locks index timeline present values) (λ s. rules.ruled mode x w s action) ⌝ }
 {
     match action {
         Action::Start(op) => start(x, op, &mut *last, &mut *timeline),
         Action::LookUp => look_up(x, &*index),
-        Action::Read => read_base(x, *last, &mut *timeline),
+        Action::Read => read_base(mode, x, w, *last, &mut *locks, &mut *timeline),
         Action::Write => write_slice(x, &mut *present, &mut *values),
-        Action::Index => enter_index(x, w, &mut *lock, &mut *index),
-        Action::Check => check_conflict(x, *last, &*timeline),
+        Action::Index => enter_index(mode, x, w, &mut *locks, &mut *index),
+        Action::Check => check_conflict(mode, x, *last, &*timeline),
         Action::Commit => commit(x, &mut *timeline),
         Action::Abort => abort(x),
     }
-}
-
-// The lock after writer w has let go of it.
-fn released(lock: u8, w: u8) -> u8
-    requires { ⌜ w < writers ⌝ }
-    ensures { λ r. ⌜ r ≡ rules.released lock w ⌝ }
-{
-    if lock == w + 1 { 0 } else { lock }
 }
 
 // The index after an operation on a key has ended with an answer: the entry that it made is taken out again, unless it has committed.
@@ -388,11 +397,17 @@ fn withdraw(answer: u8, made: bool, key: u8, index: &mut [u8; KEYS])
     index[slot] = 0;
 }
 
-// A verdict carried out for writer w. Every operation that ends or commits closes here: its writer is ready, the lock free if the writer held it,
+// A verdict carried out for writer w. Every operation that ends or commits closes here: its writer is ready, each lock that the writer held is free,
 // and the index entry that it made withdrawn, unless it has committed.
-pub fn carry_out(v: Verdict, x: Writer, w: u8, lock: &mut u8, index: &mut [u8; KEYS]) -> Acted
+pub fn carry_out(
+    v: Verdict,
+    x: Writer,
+    w: u8,
+    locks: &mut [u8; GROUPS],
+    index: &mut [u8; KEYS],
+) -> Acted
     requires { ⌜ (w < writers) × Bounds x ⌝ }
-    ensures { λ r. ⌜ CarriesOut x w v r (together (changing withLock lock) (changing withIndex index)) ⌝ }
+    ensures { λ r. ⌜ CarriesOut x w v r (together (changing withLocks locks) (changing withIndex index)) ⌝ }
 {
     match v {
         Verdict::Refused(n) => Acted {
@@ -401,8 +416,7 @@ pub fn carry_out(v: Verdict, x: Writer, w: u8, lock: &mut u8, index: &mut [u8; K
         },
         Verdict::Ended(n) => {
             withdraw(n, x.made, x.key, &mut *index);
-            let held = *lock;
-            *lock = released(held, w);
+            free_locks(w, &mut *locks);
             Acted {
                 answer: n,
                 writer: ready(),

@@ -7,11 +7,13 @@ pub use actions::Acted;
 pub use actions::ready;
 use common::Word;
 use metadata::actor_in_range;
+use model::Mode;
 use model::Step;
 use model::Value;
 use model::Writer;
 use model::answers::NO_WRITER;
 use model::answers::OUT_OF_RANGE;
+use model::limits::GROUPS;
 use model::limits::KEYS;
 use model::limits::ROWS;
 use model::limits::TIMESTAMPS;
@@ -27,17 +29,18 @@ pub fn slot_of(w: Word) -> usize
 // One step on the parts of a table, for a caller that keeps a table in locals over many steps: `tested` is the result of the range test that
 // the caller made before them, and x the record at the writer's place. Only the actor is tested again.
 pub fn act(
+    mode: Mode,
     tested: bool,
     x: Writer,
     s: Step,
     last: &mut u8,
-    lock: &mut u8,
+    locks: &mut [u8; GROUPS],
     index: &mut [u8; KEYS],
     timeline: &mut [u8; TIMESTAMPS],
     present: &mut [bool; ROWS],
     values: &mut [Value; ROWS],
 ) -> Acted
-    ensures { λ r. ⌜ OutcomeIs r (allFields last lock index timeline present values) (λ o. actOnParts tested x o s) ⌝ }
+    ensures { λ r. ⌜ OutcomeIs r (allFields last locks index timeline present values) (λ o. actOnParts mode tested x o s) ⌝ }
 {
     if !tested {
         return Acted {
@@ -60,15 +63,16 @@ pub fn act(
     let w = s.writer as u8;
     let action = s.action;
     let v = actions::decide(
+        mode,
         x,
         w,
         action,
         &mut *last,
-        &mut *lock,
+        &mut *locks,
         &mut *index,
         &mut *timeline,
         &mut *present,
         &mut *values,
     );
-    actions::carry_out(v, x, w, &mut *lock, &mut *index)
+    actions::carry_out(v, x, w, &mut *locks, &mut *index)
 }

@@ -8,6 +8,7 @@ ghost use Rattle.run.specs.Calls.{ran};
 use crate::calls::instant;
 use crate::calls::scan;
 use crate::steps::run_by_steps;
+use model::Mode;
 use model::Table;
 use model::Value;
 use model::limits::ROWS;
@@ -147,11 +148,11 @@ pub fn play(
     pieces(t, &mut shown, &mut held, script, first, last, true);
 }
 
-// A script from a fresh table on.
-pub fn story(title: &[u8], script: &[u8], first: u64, last: u64) {
+// A script from a fresh table of a mode on.
+pub fn story(mode: Mode, title: &[u8], script: &[u8], first: u64, last: u64) {
     let mut present = [false; ROWS];
     let mut values: [Value; ROWS] = [0; ROWS];
-    let t = table::fresh(&mut present, &mut values);
+    let t = table::fresh(mode, &mut present, &mut values);
     report::title(title);
     play(t, &present, &values, script, first, last);
 }

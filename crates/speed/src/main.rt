@@ -7,6 +7,7 @@ ghost use Prim.Native.Nat.{_<_, _≤_};
 use common::Word;
 use leb128::Decoded;
 use libc::STDIN_FILENO;
+use model::Mode;
 use model::Value;
 use model::limits::KEYS;
 use model::limits::ROWS;
@@ -31,11 +32,11 @@ fn behind(end: usize, at: usize, size: usize) -> usize
     at + size
 }
 
-// Runs a log on a fresh table, STEPS records at a time, with a scan at the last timestamp issued after each.
+// Runs a log on a fresh optimistic table, STEPS records at a time, with a scan at the last timestamp issued after each.
 fn pass(log: &[u8], present: &mut [bool; ROWS], values: &mut [Value; ROWS], printed: bool) {
     let mut answers = [0u8; STEPS];
     let mut rows: [Word; ROOM] = [0; ROOM];
-    let mut t = table::fresh(present, values);
+    let mut t = table::fresh(Mode::Optimistic, present, values);
     let mut at: usize = 0;
     while at < log.len() {
         let ran = run::run_log(t, present, values, &log[at..], &mut answers);

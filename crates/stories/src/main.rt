@@ -1,6 +1,7 @@
 // Source 002's examples, document 01's traces and document 02's rules, run as logs and step by step.
 mod entries;
 mod examples;
+mod pessimistic;
 mod traces;
 
 fn main() {
@@ -18,4 +19,10 @@ fn main() {
     entries::taken_out();
     entries::left();
     entries::looked_up();
+    pessimistic::conflicts();
+    pessimistic::checks();
+    pessimistic::ends();
+    pessimistic::refusals();
+    pessimistic::apart();
+    pessimistic::entries();
 }

@@ -3,6 +3,7 @@ use crate::set::bare;
 use crate::set::putting;
 use crate::set::removing;
 use crate::set::story;
+use model::Mode;
 use model::Table;
 use model::Writer;
 use model::instants::COMPLETED;
@@ -16,7 +17,7 @@ fn maker(x: Writer) -> Writer {
 
 // Timestamp 5 is completed in file group 0, and keys 1 to 8 are indexed.
 fn indexed() -> Table {
-    let mut t = bare(9);
+    let mut t = bare(Mode::Optimistic, 9);
     t.timeline[4] = COMPLETED;
     t.index[1] = 8;
     t.index[2] = 7;

@@ -4,6 +4,7 @@ use crate::set::putting;
 use crate::set::set_rows;
 use crate::set::story;
 use common::Word;
+use model::Mode;
 use model::Table;
 use model::Value;
 use model::instants::COMPLETED;
@@ -17,7 +18,7 @@ pub fn completed_elsewhere() {
     let title = b"A timestamp that is completed in another file group";
     let script =
         b"as it is:;writer 1 writes:\x01\x05;indexes:\x01\x06;checks:\x01\x07;commits:\x01\x08;";
-    let mut t = bare(1);
+    let mut t = bare(Mode::Optimistic, 1);
     t.timeline[0] = COMPLETED;
     t.writers[1] = putting(3, 5, 55, 1, 1, 0);
     story(title, t, &[0, 1, 0, 10], script, 1, 1);
@@ -28,7 +29,7 @@ pub fn base_of_another_group() {
     let title = b"A base of another file group";
     let script =
         b"as it is:;writer 0 writes:\x00\x05;indexes:\x00\x06;checks:\x00\x07;commits:\x00\x08;";
-    let mut t = bare(2);
+    let mut t = bare(Mode::Optimistic, 2);
     t.timeline[0] = COMPLETED + 1;
     t.timeline[1] = INFLIGHT;
     t.index[5] = 2;
@@ -50,7 +51,7 @@ pub fn two_groups_at_once() {
         writer 1 indexes:\x01\x06;\
         writer 1 checks:\x01\x07;\
         writer 1 commits:\x01\x08;";
-    let mut t = bare(1);
+    let mut t = bare(Mode::Optimistic, 1);
     t.timeline[0] = INFLIGHT;
     t.writers[0] = putting(3, 0, 10, 0, 1, 0);
     t.writers[1] = putting(3, 5, 55, 1, 1, 0);
@@ -75,7 +76,7 @@ pub fn one_key_twice() {
     let title = b"One key in two file groups, and a base with no slice";
     let script = b"as it is:;writer 0 commits:\x00\x05\x00\x06\x00\x07\x00\x08;";
     let rows = [6, 1, 1, 10, 5, 2, 1, 99];
-    let mut t = bare(4);
+    let mut t = bare(Mode::Optimistic, 4);
     t.timeline[0] = COMPLETED + 6;
     t.timeline[1] = COMPLETED + 5;
     t.timeline[2] = COMPLETED + 5;

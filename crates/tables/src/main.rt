@@ -11,6 +11,10 @@ fn main() {
     groups::two_groups_at_once();
     groups::one_key_twice();
     locks::held_by_none();
+    locks::two_held();
+    locks::at_phase_5();
+    locks::held_by_another();
+    locks::of_each_mode();
     numbers::not_given();
     entries::said_to_be_made();
 }

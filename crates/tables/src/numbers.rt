@@ -3,6 +3,7 @@ use crate::set::bare;
 use crate::set::putting;
 use crate::set::removing;
 use crate::set::story;
+use model::Mode;
 use model::Table;
 use model::instants::COMPLETED;
 
@@ -10,7 +11,7 @@ use model::instants::COMPLETED;
 // Writer 1, at its index step, has a remove of a key that is not indexed. Writer 3 has a base above its timestamp, and its slice has a row already.
 // Writer 15 is ready and keeps numbers.
 fn table_with() -> Table {
-    let mut t = bare(5);
+    let mut t = bare(Mode::Optimistic, 5);
     t.timeline[0] = COMPLETED + 2;
     t.timeline[1] = COMPLETED + 3;
     t.writers[0] = putting(2, 4, 41, 2, 1, 5);

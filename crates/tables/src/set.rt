@@ -1,5 +1,6 @@
 // Tables and rows, set by hand.
 use common::Word;
+use model::Mode;
 use model::Table;
 use model::Value;
 use model::Writer;
@@ -28,11 +29,11 @@ pub fn removing(phase: u8, key: u8, group: u8, ts: u8, base: u8) -> Writer {
     x
 }
 
-// A fresh table but for its last timestamp.
-pub fn bare(last: u8) -> Table {
+// A fresh table of a mode but for its last timestamp.
+pub fn bare(mode: Mode, last: u8) -> Table {
     let mut present = [false; ROWS];
     let mut values: [Value; ROWS] = [0; ROWS];
-    let mut t = table::fresh(&mut present, &mut values);
+    let mut t = table::fresh(mode, &mut present, &mut values);
     t.last = last;
     t
 }

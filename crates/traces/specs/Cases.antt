@@ -7,12 +7,13 @@ use lib.ListN.{getD, replicate}
 use Rattle.leb128.specs.Coding.{encoded, decodedAt, decodedNumbers}
 use Rattle.common.specs.Counting.{listBelow}
 use Rattle.model.specs.Limits.{writers}
-use Rattle.model.specs.State.{Shared, State, fresh, rowAt}
+use Rattle.model.specs.State.{Shared, State, rowAt}
 use Rattle.model.specs.Rules.{entryOf, writerOf, step}
 use Rattle.model.specs.Machine.{answersFrom, commitMachine}
 use Rattle.model.specs.Snapshot.{Listed, scan, pointRead, foundNumbers, instantAt, instantNumbers}
 use Rattle.model.specs.History.{Pending, Committed, History}
 use Rattle.model.specs.Isolation.{after}
+use Rattle.model.specs.declared.Mode.{Mode}
 use Rattle.model.specs.declared.Writer.{Writer}
 use Rattle.model.specs.declared.Operation.{Operation}
 use Rattle.model.specs.declared.Operation.the-variants.{Put, Remove}
@@ -33,17 +34,17 @@ pub data Case : Type 0 where
   readRecord : List ℕ → ℕ → Case  -- the record at a place of a log
   readLog : (List ℕ → LogRead) → List ℕ → Case  -- a whole log, under a rule
   written : List Step → ℕ → ℕ → Case  -- the log of steps, written into so many bytes, each 99, from a place on
-  ran : Input → ℕ → Case  -- a run from a fresh table, with so many places for answers, each 99
+  ran : State → Input → ℕ → Case  -- a run on a table, with so many places for answers, each 99
   answers : State → List Step → Case  -- the answers to steps on a table
   eachAnswer : State → Case  -- the answers to each action of writer 0, all on the same table
   scanned : State → List Step → ℕ → ℕ → Case  -- a scan after steps on a table, at a timestamp, with room for so many numbers, each 99
   read : State → List Step → ℕ → ℕ → Case  -- a point read after steps on a table, at a timestamp, of a key
-  stands : State → List Step → ℕ → ℕ → Case  -- last timestamp, lock, a key's index entry and a writer's record after steps on a table
+  stands : State → List Step → ℕ → ℕ → Case  -- last timestamp, locks, a key's index entry and a writer's record after steps on a table
   place : ℕ → ℕ → ℕ → Case  -- the place of the row of a file group, timestamp and key
   rows : State → List Step → List ℕ → Case  -- the rows at some places after steps on a table
   instants : State → List Step → List ℕ → Case  -- the instants of some timestamps after steps on a table
-  history : List Step → Case  -- the history of steps on a fresh table
-  stored : List Step → ℕ → ℕ → Case  -- what the write steps among steps on a fresh table stored under a timestamp, of a key
+  history : Mode → List Step → Case  -- the history of steps on a fresh table of a mode
+  stored : Mode → List Step → ℕ → ℕ → Case  -- what the write steps among steps on a fresh table of a mode stored under a timestamp, of a key
   onParts : State → Step → Case  -- the answer of `rules::act` to a caller who says that the table is in range, whether it is or not
   searched : List ℕ → ℕ → ℕ → ℕ → Case  -- the search of a timeline for hits of a file group, above a base and up to a last timestamp
   judged : State → Case  -- a step of writer 16, a read of key 32, a scan with too little room, and the instant of timestamp 1
@@ -73,9 +74,9 @@ instantsNumbers st (t ∷ ts) = instantNumbers (instantAt st t) ++ instantsNumbe
 abbrev pub writerNumbers : Writer → List ℕ
 writerNumbers x = x .phase ∷ cond (x .put) 1 0 ∷ cond (x .made) 1 0 ∷ x .key ∷ x .group ∷ x .ts ∷ x .base ∷ x .value ∷ []
 
--- the last timestamp, the lock, a key's index entry and a writer's record
+-- the last timestamp, the locks, a key's index entry and a writer's record
 abbrev pub standing : Shared → Writer → ℕ → List ℕ
-standing s x k = s .last ∷ s .lock ∷ entryOf s k ∷ writerNumbers x
+standing s x k = s .last ∷ s .locks ++ entryOf s k ∷ writerNumbers x
 
 -- the rows at some places: present or not, and the value
 abbrev pub rowsNumbers : Shared → List ℕ → List ℕ
@@ -137,7 +138,7 @@ result (decode bytes at) = decodedNumbers (decodedAt bytes at)
 result (readRecord log at) = recordNumbers (recordAt log at)
 result (readLog rule log) = logNumbers (rule log)
 result (written ss room at) = writtenNumbers (logWritten ss (replicate room 99) at)
-result (ran input places) = runNumbers (runOf input fresh (replicate places 99))
+result (ran st input places) = runNumbers (runOf input st (replicate places 99))
 result (answers st ss) = answersFrom commitMachine st ss
 result (eachAnswer st) = map (λ a. step st (does 0 a) .answer) actions
 result (scanned st ss t room) = listedNumbers (scan (afterSteps st ss) t (replicate room 99))
@@ -146,9 +147,9 @@ result (stands st ss w k) = standing (afterSteps st ss .shared) (writerOf (after
 result (place g n k) = rowAt g n k ∷ []
 result (rows st ss is) = rowsNumbers (afterSteps st ss .shared) is
 result (instants st ss ts) = instantsNumbers (afterSteps st ss) ts
-result (history ss) = historyNumbers (after ss .history)
-result (stored ss n k) = valueNumbers (after ss .stored n k)
-result (onParts st s) = actOnParts true (writerOf st (slotOf (s .writer))) (st .shared) s .answer ∷ []
+result (history mode ss) = historyNumbers (after mode ss .history)
+result (stored mode ss n k) = valueNumbers (after mode ss .stored n k)
+result (onParts st s) = actOnParts (st .mode) true (writerOf st (slotOf (s .writer))) (st .shared) s .answer ∷ []
 result (searched timeline g base last) = searchNumbers (newestAbove timeline g base last)
 result (judged st) =
     step st (does 16 (Start (Put 32 0 8))) .answer

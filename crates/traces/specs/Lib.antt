@@ -1,2 +1,6 @@
 pub mod Cases
+pub mod Stories
+pub mod Stated
+pub mod Tables
+pub mod Pessimistic
 pub mod Traces

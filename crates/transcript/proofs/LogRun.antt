@@ -16,6 +16,7 @@ use Rattle.model.specs.State.{State, fresh}
 use Rattle.model.specs.Snapshot.{Row, rowsAt, Listed, listed, scan}
 use Rattle.model.specs.History.{Committed, History, newestOn, putRow, rowOfNewest, listing}
 use Rattle.model.specs.Isolation.{after}
+use Rattle.model.specs.declared.Mode.{Mode}
 use Rattle.model.specs.declared.Operation.{Operation}
 use Rattle.model.specs.declared.Operation.the-variants.{Put, Remove}
 use Rattle.model.specs.declared.Step.{Step}
@@ -46,10 +47,10 @@ listing-within : (h : History) (t : ℕ) → length (listing h t) ≤ keys
 unfolding listing
 listing-within h t = length-below 1 keys _ (λ k. one-row (newestOn (h .done) k t))
 
-module _ (log answers : List ℕ) where
+module _ (mode : Mode) (log answers : List ℕ) where
   -- the run, and the steps that it takes
   abbrev run : Run State
-  run = runOf (ofLog log) fresh answers
+  run = runOf (ofLog log) (fresh mode) answers
 
   abbrev steps : List Step
   steps = takenFrom (ofLog log) (length answers) 0 .steps
@@ -57,22 +58,22 @@ module _ (log answers : List ℕ) where
   -- each answer has its place, and the answers keep their length
   count-within : run .count ≤ length answers
   unfolding runOf
-  count-within = count-fits _ (ofLog log) fresh answers
+  count-within = count-fits _ (ofLog log) (fresh mode) answers
 
   same-places : length (run .answers) ≡ length answers
   unfolding runOf
-  same-places = answers-length _ (ofLog log) fresh answers
+  same-places = answers-length _ (ofLog log) (fresh mode) answers
 
-  pub rows-of-history : (t : ℕ) → rowsAt (run .state .shared) t ≡ listing (after steps .history) t
-  rows-of-history t = rw (run-state answers (ofLog log)) (rows-listed (after steps) (reached steps) t)
+  pub rows-of-history : (t : ℕ) → rowsAt (run .state .shared) t ≡ listing (after mode steps .history) t
+  rows-of-history t = rw (run-state mode answers (ofLog log)) (rows-listed (after mode steps) (reached mode steps) t)
 
   pub rows-within : (t : ℕ) → length (rowsAt (run .state .shared) t) ≤ keys
-  rows-within t = rw (rows-of-history t) (listing-within (after steps .history) t)
+  rows-within t = rw (rows-of-history t) (listing-within (after mode steps .history) t)
 
   pub scan-lists : (t : ℕ) (buffer : List ℕ) → 3 * keys ≤ length buffer → scan (run .state) t buffer ≡ listed (rowsAt (run .state .shared) t) buffer
   scan-lists t buffer room =
-      rw (rows-of-history t, run-state answers (ofLog log))
-      (isolated steps .lists t buffer (omega (arith, listing-within (after steps .history) t)))
+      rw (rows-of-history t, run-state mode answers (ofLog log))
+      (isolated mode steps .lists t buffer (omega (arith, listing-within (after mode steps .history) t)))
 
 -- ---- the run and the scan
 -- the answers and the numbers of rows, as they are lent
@@ -83,32 +84,32 @@ abbrev noNumbers : List ℕ
 noNumbers = replicate (3 * keys) 0
 
 -- a run from a fresh table, and a scan of the table after it at the last timestamp
-module _ (log : List ℕ) {st : State} {r : Run State} {s : Listed} (begins : st ≡ fresh) (runs : r ≡ runOf (ofLog log) st noAnswers)
+module _ (mode : Mode) (log : List ℕ) {st : State} {r : Run State} {s : Listed} (begins : st ≡ fresh mode) (runs : r ≡ runOf (ofLog log) st noAnswers)
     (scanned : s ≡ scan (r .state) (r .state .shared .last) noNumbers) where
   abbrev rows : List Row
   rows = rowsAt (r .state .shared) (r .state .shared .last)
 
-  is-run : r ≡ runOf (ofLog log) fresh noAnswers
+  is-run : r ≡ runOf (ofLog log) (fresh mode) noAnswers
   is-run = runs ∙ ap (λ (t : State). runOf (ofLog log) t noAnswers) begins
 
   is-listed : s ≡ listed rows noNumbers
-  is-listed = scanned ∙ rw is-run (scan-lists log noAnswers _ noNumbers (omega (arith, length-replicate {A = ℕ} (3 * keys) 0)))
+  is-listed = scanned ∙ rw is-run (scan-lists mode log noAnswers _ noNumbers (omega (arith, length-replicate {A = ℕ} (3 * keys) 0)))
 
   pub run-fits : (text : List ℕ) → maxText ≤ length text → length (s .buffer) ≡ 3 * keys
       → (r .count ≤ length (r .answers)) × (3 * s .count ≤ length (s .buffer)) × (runRoom (r .count) (s .count) ≤ length text)
   run-fits text h size =
       let places = length-replicate {A = ℕ} maxAnswers 0 in
-      let count = rw (← is-run) at (count-within log noAnswers) in
-      let same = rw (← is-run) at (same-places log noAnswers) in
-      let few = rw (← is-run) at (rows-within log noAnswers (r .state .shared .last)) in
+      let count = rw (← is-run) at (count-within mode log noAnswers) in
+      let same = rw (← is-run) at (same-places mode log noAnswers) in
+      let few = rw (← is-run) at (rows-within mode log noAnswers (r .state .shared .last)) in
       let listed : s .count ≡ length rows = ap (λ (l : Listed). l .count) is-listed in
       (omega arith, omega arith, omega arith)
 
-  is-transcript : length log ≤ maxLog → runText (take (r .count) (r .answers)) (r .stop) (r .offset) (s .buffer) (s .count) ≡ transcript log
+  is-transcript : length log ≤ maxLog → runText (take (r .count) (r .answers)) (r .stop) (r .offset) (s .buffer) (s .count) ≡ transcript mode log
   unfolding runText transcript
   is-transcript short = rw (is-listed, rows-below, le-ltb _ _ short, is-run)
 
   pub run-printed : (text : List ℕ) {size : ℕ} {buffer : List ℕ} → maxText ≤ length text → length log ≤ maxLog
       → PastedTo text 0 (runText (take (r .count) (r .answers)) (r .stop) (r .offset) (s .buffer) (s .count)) size buffer
-      → record { size = size; buffer = buffer } ≡ printed log text
-  run-printed text room short put = text-printed log text room (rw (is-transcript short) at put)
+      → record { size = size; buffer = buffer } ≡ printed mode log text
+  run-printed text room short put = text-printed mode log text room (rw (is-transcript short) at put)

@@ -14,6 +14,7 @@ use Rattle.model.specs.Machine.{answersTo}
 use Rattle.model.specs.Snapshot.{rowsAt}
 use Rattle.model.specs.History.{listing}
 use Rattle.model.specs.Isolation.{after}
+use Rattle.model.specs.declared.Mode.{Mode}
 use Rattle.model.proofs.Isolation.{reached}
 use Rattle.steplog.specs.Records.{usedUp, encodedSteps, LogRead, logRead}
 use Rattle.steplog.specs.declared.reading.Record.the-variants.{Stop}
@@ -27,38 +28,39 @@ use Rattle.run.proofs.RunState.{run-state}
 use Rattle.transcript.specs.Transcript.{maxLog, maxAnswers, reported, transcript, stepsText}
 use Rattle.transcript.proofs.LogRun.{rows-of-history}
 
-module _ (log answers : List ℕ) where
+module _ (mode : Mode) (log answers : List ℕ) where
   abbrev run : Run State
-  run = runOf (ofLog log) fresh answers
+  run = runOf (ofLog log) (fresh mode) answers
 
   abbrev consumed : LogRead
   consumed = takenFrom (ofLog log) (length answers) 0
 
-  last-issued : run .state .shared .last ≡ after (consumed .steps) .history .last
-  last-issued = ap (λ (st : State). st .shared .last) (run-state answers (ofLog log)) ∙ sym (reached (consumed .steps) .invariant .last)
+  last-issued : run .state .shared .last ≡ after mode (consumed .steps) .history .last
+  last-issued = ap (λ (st : State). st .shared .last) (run-state mode answers (ofLog log)) ∙ sym (reached mode (consumed .steps) .invariant .last)
 
-  rows-listed : rowsAt (run .state .shared) (run .state .shared .last) ≡ listing (after (consumed .steps) .history) (after (consumed .steps) .history .last)
-  rows-listed = rows-of-history log answers _ ∙ ap (listing (after (consumed .steps) .history)) last-issued
+  rows-listed : rowsAt (run .state .shared) (run .state .shared .last)
+      ≡ listing (after mode (consumed .steps) .history) (after mode (consumed .steps) .history .last)
+  rows-listed = rows-of-history mode log answers _ ∙ ap (listing (after mode (consumed .steps) .history)) last-issued
 
-  answers-given : take (run .count) (run .answers) ≡ answersTo (consumed .steps)
+  answers-given : take (run .count) (run .answers) ≡ answersTo mode (consumed .steps)
   unfolding runOf
-  answers-given = answers-taken _ (ofLog log) fresh answers
+  answers-given = answers-taken _ (ofLog log) (fresh mode) answers
 
   same-end : (run .stop ≡ consumed .stop) × (run .offset ≡ consumed .offset)
   unfolding runOf
-  same-end = let is = run-taken _ (ofLog log) fresh answers in (ap (λ (r : Run State). r .stop) is, ap (λ (r : Run State). r .offset) is)
+  same-end = let is = run-taken _ (ofLog log) (fresh mode) answers in (ap (λ (r : Run State). r .stop) is, ap (λ (r : Run State). r .offset) is)
 
-  run-reported : reported run ≡ stepsText consumed
+  run-reported : reported run ≡ stepsText mode consumed
   run-reported = rw (answers-given, same-end .0, same-end .1, rows-listed)
 
-pub consumed-printed : (log : List ℕ) → length log ≤ maxLog → transcript log ≡ stepsText (takenFrom (ofLog log) maxAnswers 0)
+pub consumed-printed : (mode : Mode) (log : List ℕ) → length log ≤ maxLog → transcript mode log ≡ stepsText mode (takenFrom (ofLog log) maxAnswers 0)
 unfolding transcript
-consumed-printed log short =
-    rw (le-ltb _ _ short) (run-reported log (replicate maxAnswers 0) ∙ ap (λ (n : ℕ). stepsText (takenFrom (ofLog log) n 0))
+consumed-printed mode log short =
+    rw (le-ltb _ _ short) (run-reported mode log (replicate maxAnswers 0) ∙ ap (λ (n : ℕ). stepsText mode (takenFrom (ofLog log) n 0))
     (length-replicate {A = ℕ} maxAnswers 0))
 
 -- ---- all steps of the log
-module _ (log : List ℕ) (are-bytes : (i : ℕ) → getD log i 0 < 256) (short : length log ≤ maxLog) where
+module _ (mode : Mode) (log : List ℕ) (are-bytes : (i : ℕ) → getD log i 0 < 256) (short : length log ≤ maxLog) where
   abbrev reads : LogRead
   reads = logRead log
 
@@ -76,5 +78,5 @@ module _ (log : List ℕ) (are-bytes : (i : ℕ) → getD log i 0 < 256) (short 
       (λ e. rw (eq-eqb _ _ e) (omega (arith, all, steps-most (reads .steps))))
       (λ ne. rw (ne-eqb _ _ ne) (omega (arith, at .behind, stops-inside ne, steps-most (reads .steps))))
 
-  pub log-printed : transcript log ≡ stepsText reads
-  log-printed = rw (← log-taken-whole log are-bytes maxAnswers places-enough) (consumed-printed log short)
+  pub log-printed : transcript mode log ≡ stepsText mode reads
+  log-printed = rw (← log-taken-whole log are-bytes maxAnswers places-enough) (consumed-printed mode log short)

@@ -11,6 +11,7 @@ use Rattle.model.specs.Machine.{answersTo}
 use Rattle.model.specs.Snapshot.{rowsAt}
 use Rattle.model.specs.History.{listing}
 use Rattle.model.specs.Isolation.{after}
+use Rattle.model.specs.declared.Mode.{Mode}
 use Rattle.steplog.specs.Records.{LogRead}
 use Rattle.common.specs.Pasting.{pasted}
 use Rattle.run.specs.Runs.{Run, ofLog, runOf}
@@ -33,18 +34,19 @@ abbrev pub reported : Run State → List ℕ
 reported r =
     answerLines (take (r .count) (r .answers)) ++ stopLine (r .stop) (r .offset) ++ rowLines (rowsAt (r .state .shared) (r .state .shared .last))
 
--- a log's text; for a longer input the one line `too long`
-unfoldable pub transcript : List ℕ → List ℕ
-transcript log = cond (ltb maxLog (length log)) tooLong (reported (runOf (ofLog log) fresh (replicate maxAnswers 0)))
+-- a log's text, from a fresh table of a mode; for a longer input the one line `too long`
+unfoldable pub transcript : Mode → List ℕ → List ℕ
+transcript mode log = cond (ltb maxLog (length log)) tooLong (reported (runOf (ofLog log) (fresh mode) (replicate maxAnswers 0)))
 
 -- a log's text at the start of a buffer; nothing where the buffer has not room for any text
-unfoldable pub printed : List ℕ → List ℕ → Stored
-printed log buffer =
+unfoldable pub printed : Mode → List ℕ → List ℕ → Stored
+printed mode log buffer =
     cond (ltb (length buffer) maxText) (record { size = 0; buffer = buffer })
-    (record { size = length (transcript log); buffer = pasted buffer 0 (transcript log) })
+    (record { size = length (transcript mode log); buffer = pasted buffer 0 (transcript mode log) })
 
--- the text of some steps from a fresh table: their answers, where they end, and the rows that their history lists at the last timestamp issued
-abbrev pub stepsText : LogRead → List ℕ
-stepsText t =
-    answerLines (answersTo (t .steps)) ++ stopLine (t .stop) (t .offset)
-    ++ rowLines (listing (after (t .steps) .history) (after (t .steps) .history .last))
+-- the text of some steps from a fresh table of a mode: their answers, where they end, and the rows that their history lists at the last timestamp
+-- issued
+abbrev pub stepsText : Mode → LogRead → List ℕ
+stepsText mode t =
+    answerLines (answersTo mode (t .steps)) ++ stopLine (t .stop) (t .offset)
+    ++ rowLines (listing (after mode (t .steps) .history) (after mode (t .steps) .history .last))

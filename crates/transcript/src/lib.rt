@@ -4,6 +4,7 @@ mod text;
 ghost use mathlib.Core.Path.{_≡_};
 ghost use Rattle.transcript.specs.Transcript.{printed};
 use common::Word;
+use model::Mode;
 use model::Value;
 use model::limits::KEYS;
 use model::limits::ROWS;
@@ -32,9 +33,10 @@ const ROW_ROOM: usize = 3 * (MAX_DIGITS + 1);
 // Room for any text.
 pub const MAX_TEXT: usize = ANSWER_ROOM * MAX_ANSWERS + STOP_ROOM + ROW_ROOM * KEYS;
 
-// Prints what a log's run on a fresh table gives at the start of a buffer, and gives the text's size; nothing where the buffer is shorter than MAX_TEXT.
-pub fn transcribe(log: &[u8], text: &mut [u8]) -> usize
-    ensures { λ r. ⌜ record { size = r; buffer = now (text .exit) } ≡ printed (now (log .entry)) (now (text .entry)) ⌝ }
+// Prints what a log's run on a fresh table of a mode gives at the start of a buffer, and gives the text's size; nothing where the buffer is shorter
+// than MAX_TEXT.
+pub fn transcribe(mode: Mode, log: &[u8], text: &mut [u8]) -> usize
+    ensures { λ r. ⌜ record { size = r; buffer = now (text .exit) } ≡ printed mode (now (log .entry)) (now (text .entry)) ⌝ }
 {
     if text.len() < MAX_TEXT {
         return 0;
@@ -44,7 +46,7 @@ pub fn transcribe(log: &[u8], text: &mut [u8]) -> usize
     }
     let mut present = [false; ROWS];
     let mut values: [Value; ROWS] = [0; ROWS];
-    let fresh = table::fresh(&mut present, &mut values);
+    let fresh = table::fresh(mode, &mut present, &mut values);
     let mut answers = [0u8; MAX_ANSWERS];
     let ran = run::run_log(fresh, &mut present, &mut values, log, &mut answers);
     let t = ran.table;

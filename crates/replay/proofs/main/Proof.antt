@@ -44,10 +44,10 @@ transcribe-requires : tie.Need-transcribe-requires
 transcribe-requires c κs = search needs
 
 array-share-prefix-text : tie.Need-array-share-prefix-text
-array-share-prefix-text c = let fits = printed-within _ _ _ _ (c .before .transcribe .ensures) in search needs
+array-share-prefix-text c = let fits = printed-within _ _ _ _ _ (c .before .transcribe .ensures) in search needs
 
 slice-aggregate-write-all-2 : tie.Need-slice-aggregate-write-all-2
-slice-aggregate-write-all-2 c = counts _ _ (printed-within _ _ _ _ (c .before .before .transcribe .ensures)) .1
+slice-aggregate-write-all-2 c = counts _ _ (printed-within _ _ _ _ _ (c .before .before .transcribe .ensures)) .1
 
 write-all-requires-2 : tie.Need-write-all-requires-2
 write-all-requires-2 c κs = search needs

@@ -33,13 +33,14 @@ with-parts-requires : tie.Need-with-parts-requires
 with-parts-requires c κs = search needs
 
 returns : tie.Need-returns
-returns c = let t = c .before .before .before .before .before .before .before .before .before .before .before in
-    let a = c .before .before .before .before .before .before .before .before .before .before .before .before .before .before .before .before .before in
-    let slot = c .before .before .before .before .before .before .before .before .before .before .slot-of .ensures .is in
+returns c =
+    let s = c .before .before .before .before .before .before .before .before .before .before in
+    let t = s .before in
+    let a = t .before .before .before .before .before .before .before .before in
     let st = stateOf (a .args .t) (now (a .args .present)) (now (a .args .values)) in
     ap (answered _) (c .with-parts .ensures _ _)
     ∙ ap (updated st _) (c .before .before .act .ensures (st .shared))
-    ∙ rw (t .parts-in-range .ensures st, slot) (parts-step st _)
+    ∙ rw (t .parts-in-range .ensures st, s .slot-of .ensures .is) (parts-step st _)
 
 pub advance-spec : {M : Type 1} → statement M
 advance-spec =

@@ -7,7 +7,7 @@ use Rattle.transcript.proofs.transcribe.Statement.{statement}
 use Rattle.transcript.proofs.transcribe.Tie as tie
 
 returns : tie.Need-returns
-returns c = nothing-printed _ _ (c .if1 .taken)
+returns c = nothing-printed _ _ _ (c .if1 .taken)
 
 slice-aggregate-put-bytes : tie.Need-slice-aggregate-put-bytes
 slice-aggregate-put-bytes c = search needs
@@ -19,8 +19,9 @@ same-length : tie.Need-same-length
 same-length c = search needs
 
 returns-2 : tie.Need-returns-2
-returns-2 c = too-long-printed _ _ (c .before .before .before .before .before .before .if1 .left) (c .before .before .before .before .before .if2 .taken)
-    (c .before .before .put-bytes .ensures)
+returns-2 c =
+    let long = c .before .before .before .before .before in
+    too-long-printed _ _ _ (long .before .if1 .left) (long .if2 .taken) (c .before .before .put-bytes .ensures)
 
 fresh-requires : tie.Need-fresh-requires
 fresh-requires c κs = search needs
@@ -53,7 +54,8 @@ put-run-requires c κs =
     let cleared = ran .before .before .before .before in
     let short = cleared .before .before .before .before in
     let entry = short .before .before .before .args in
-    run-fits (entry .log .now) (cleared .fresh .ensures) (ran .run-log .ensures) (scanned .scan .ensures) (entry .text .now) (short .if1 .left) (search needs)
+    run-fits _ (entry .log .now) (cleared .fresh .ensures) (ran .run-log .ensures) (scanned .scan .ensures) (entry .text .now) (short .if1 .left)
+    (search needs)
 
 same-length-2 : tie.Need-same-length-2
 same-length-2 c = search needs
@@ -64,7 +66,7 @@ returns-3 c =
     let ran = scanned .before .before .before .before .before .before .before in
     let cleared = ran .before .before .before .before in
     let short = cleared .before .before .before in
-    run-printed _ (cleared .fresh .ensures) (ran .run-log .ensures) (scanned .scan .ensures) _ (short .before .if1 .left) (short .if2 .left)
+    run-printed _ _ (cleared .fresh .ensures) (ran .run-log .ensures) (scanned .scan .ensures) _ (short .before .if1 .left) (short .if2 .left)
     (c .before .before .put-run .ensures)
 
 pub transcribe-spec : {M : Type 1} → statement M

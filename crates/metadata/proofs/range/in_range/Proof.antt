@@ -8,7 +8,8 @@ parts-in-range-requires : tie.Need-parts-in-range-requires
 parts-in-range-requires c κs = search needs
 
 returns : tie.Need-returns
-returns c = λ present values. c .parts-in-range .ensures (stateOf (c .before .before .before .before .before .before .args .t) present values)
+returns c = let a = c .before .before .before .before .before .before .before .before .args in
+    λ present values. c .parts-in-range .ensures (stateOf (a .t) present values)
 
 pub in-range-spec : {M : Type 1} → statement M
 in-range-spec = tie.close (tie.spec parts-in-range-requires returns)

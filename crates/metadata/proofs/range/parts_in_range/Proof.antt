@@ -16,10 +16,10 @@ use Rattle.metadata.proofs.range.parts_in_range.Statement.{statement}
 use Rattle.metadata.proofs.range.parts_in_range.Tie as tie
 
 abbrev Inv-loop : tie.InvT-loop
-Inv-loop last lock index timeline xs w₀ w = (w ≤ writers) × ((k : ℕ) → k < w → writerInRange last (getD xs k ready) ≡ true)
+Inv-loop last locks index timeline xs w₀ w = (w ≤ writers) × ((k : ℕ) → k < w → writerInRange last (getD xs k ready) ≡ true)
 
 abbrev μ-loop : tie.MeasureT-loop
-μ-loop last lock index timeline xs w₀ w = writers - w
+μ-loop last locks index timeline xs w₀ w = writers - w
 
 shared-in-range-requires : tie.Need-shared-in-range-requires Inv-loop μ-loop
 shared-in-range-requires c κs = search needs

@@ -5,9 +5,9 @@ use mathlib.Core.Path.{_≡_, _∙_}
 use denote.Ref.{now}
 use lib.ListN.{length}
 use borrow.Author.Tests.{le-leb, lt-leb, lt-ltb, le-ltb}
-use Rattle.model.specs.Limits.{keys, timestamps}
+use Rattle.model.specs.Limits.{keys, groups, timestamps}
 use Rattle.model.specs.Range.{writersInRange, inRange}
-use Rattle.metadata.proofs.Largest.{index-largest, instants-largest, above-largest}
+use Rattle.metadata.proofs.Largest.{locks-largest, index-largest, instants-largest, above-largest}
 use borrow.Author.Needs.{needs}
 use Rattle.metadata.proofs.range.shared_in_range.Statement.{statement}
 use Rattle.metadata.proofs.range.shared_in_range.Tie as tie
@@ -19,25 +19,28 @@ returns : tie.Need-returns
 unfolding inRange
 returns c = λ st ws. rw (lt-leb _ _ (c .if1 .taken))
 
+largest-requires : tie.Need-largest-requires
+largest-requires c κs = search needs
+
 cast-if2 : tie.Need-cast-if2
 cast-if2 c = search needs
 
 returns-2 : tie.Need-returns-2
 unfolding inRange
-returns-2 c = λ st ws. simp (lt-leb _ _ (c .if2 .taken), and-false)
+returns-2 c = λ st ws. simp (locks-largest _ (c .before .largest .ensures) (search needs) ∙ lt-leb _ _ (c .if2 .taken), and-false)
 
-largest-requires : tie.Need-largest-requires
-largest-requires c κs = search needs
+largest-requires-2 : tie.Need-largest-requires-2
+largest-requires-2 c κs = search needs
 
 cast-if3 : tie.Need-cast-if3
 cast-if3 c = search needs
 
 returns-3 : tie.Need-returns-3
 unfolding inRange
-returns-3 c = λ st ws. simp (index-largest _ (c .before .largest .ensures) (search needs) ∙ lt-leb _ _ (c .if3 .taken), and-false)
+returns-3 c = λ st ws. simp (index-largest _ (c .before .largest2 .ensures) (search needs) ∙ lt-leb _ _ (c .if3 .taken), and-false)
 
-largest-requires-2 : tie.Need-largest-requires-2
-largest-requires-2 c κs = search needs
+largest-requires-3 : tie.Need-largest-requires-3
+largest-requires-3 c κs = search needs
 
 cast-if4 : tie.Need-cast-if4
 cast-if4 c = search needs
@@ -47,26 +50,28 @@ add-if4 c = search needs
 
 returns-4 : tie.Need-returns-4
 unfolding inRange
-returns-4 c = λ st ws. simp (instants-largest _ (c .before .largest2 .ensures) (search needs) ∙ le-ltb _ _ (c .if4 .taken), and-false)
+returns-4 c = λ st ws. simp (instants-largest _ (c .before .largest3 .ensures) (search needs) ∙ le-ltb _ _ (c .if4 .taken), and-false)
 
-largest-requires-3 : tie.Need-largest-requires-3
-largest-requires-3 c κs = search needs
+largest-requires-4 : tie.Need-largest-requires-4
+largest-requires-4 c κs = search needs
 
 returns-5 : tie.Need-returns-5
 unfolding inRange
 returns-5 c =
     let f = c .before .before in
     let e = f .before .before .before in
-    let a = e .before .before .before .before .before .args in
+    let d = e .before .before .before in
+    let a = d .before .before .before .before .args in
+    let k : length (now (a .locks)) ≡ groups = search needs in
     let i : length (now (a .index)) ≡ keys = search needs in
     let l : length (now (a .timeline)) ≡ timestamps = search needs in
     λ st ws.
     rw (
-      le-leb _ _ (e .before .before .before .before .if1 .left),
-      le-leb _ _ (e .before .before .before .if2 .left),
-      index-largest _ (e .before .largest .ensures) i ∙ le-leb _ _ (e .if3 .left),
-      instants-largest _ (f .before .largest2 .ensures) l ∙ lt-ltb _ _ (f .if4 .left),
-      above-largest _ _ (c .largest3 .ensures) l,
+      le-leb _ _ (d .before .before .before .if1 .left),
+      locks-largest _ (d .before .largest .ensures) k ∙ le-leb _ _ (d .if2 .left),
+      index-largest _ (e .before .largest2 .ensures) i ∙ le-leb _ _ (e .if3 .left),
+      instants-largest _ (f .before .largest3 .ensures) l ∙ lt-ltb _ _ (f .if4 .left),
+      above-largest _ _ (c .largest4 .ensures) l,
       and-true,
     ) (and-comm (writersInRange _ ws) _)
 
@@ -76,14 +81,15 @@ shared-in-range-spec =
     (tie.spec
     cast-if1
     returns
+    largest-requires
     cast-if2
     returns-2
-    largest-requires
+    largest-requires-2
     cast-if3
     returns-3
-    largest-requires-2
+    largest-requires-3
     cast-if4
     add-if4
     returns-4
-    largest-requires-3
+    largest-requires-4
     returns-5)

@@ -12,8 +12,8 @@ enum-known-v-2 c = search needs
 withdraw-requires : tie.Need-withdraw-requires
 withdraw-requires c κs = search needs
 
-released-requires : tie.Need-released-requires
-released-requires c κs = search needs
+free-locks-requires : tie.Need-free-locks-requires
+free-locks-requires c κs = search needs
 
 ready-requires : tie.Need-ready-requires
 ready-requires c κs = search needs
@@ -26,9 +26,7 @@ returns c = λ s. record { same = rw (c .before .v .given .1) }
 
 returns-2 : tie.Need-returns-2
 returns-2 c = let t = c .before .before .before in
-    λ s. record {
-      same = rw (t .before .before .before .v2 .given .1, t .withdraw .ensures, c .ready .ensures, c .before .released .ensures);
-    }
+    λ s. record { same = rw (t .before .before .before .v2 .given .1, t .withdraw .ensures, c .before .free-locks .ensures, c .ready .ensures) }
 
 returns-3 : tie.Need-returns-3
 returns-3 c = λ s. record { same = rw (c .before .v3 .given .1) }
@@ -40,7 +38,7 @@ carry-out-spec =
     enum-known-v
     enum-known-v-2
     withdraw-requires
-    released-requires
+    free-locks-requires
     ready-requires
     enum-known-v-3
     returns

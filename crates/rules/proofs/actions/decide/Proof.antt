@@ -56,35 +56,35 @@ abort-requires c κs = search needs
 
 returns : tie.Need-returns
 unfolding ruled
-returns c = λ w s. at-state (c .start .ensures) refl refl (sym (ap (ruled _ _ _) (c .before .before .before .before .action .given .1)))
+returns c = λ w s. at-state (c .start .ensures) refl refl (sym (ap (ruled _ _ _ _) (c .before .before .before .before .action .given .1)))
 
 returns-2 : tie.Need-returns-2
 unfolding ruled
-returns-2 c = λ w s. at-state (c .look-up .ensures) refl refl (sym (ap (ruled _ _ _) (c .before .before .enum-told .given .1)))
+returns-2 c = λ w s. at-state (c .look-up .ensures) refl refl (sym (ap (ruled _ _ _ _) (c .before .before .enum-told .given .1)))
 
 returns-3 : tie.Need-returns-3
 unfolding ruled
-returns-3 c = λ w s. at-state (c .read-base .ensures) refl refl (sym (ap (ruled _ _ _) (c .before .before .before .enum-told2 .given .1)))
+returns-3 c = λ w s. at-state (c .read-base .ensures) refl refl (sym (ap (ruled _ _ _ _) (c .before .before .before .before .enum-told2 .given .1)))
 
 returns-4 : tie.Need-returns-4
 unfolding ruled
-returns-4 c = λ w s. at-state (c .write-slice .ensures) refl refl (sym (ap (ruled _ _ _) (c .before .before .before .enum-told3 .given .1)))
+returns-4 c = λ w s. at-state (c .write-slice .ensures) refl refl (sym (ap (ruled _ _ _ _) (c .before .before .before .enum-told3 .given .1)))
 
 returns-5 : tie.Need-returns-5
 unfolding ruled
-returns-5 c = λ w s. at-state (c .enter-index .ensures) refl refl (sym (ap (ruled _ _ _) (c .before .before .before .enum-told4 .given .1)))
+returns-5 c = λ w s. at-state (c .enter-index .ensures) refl refl (sym (ap (ruled _ _ _ _) (c .before .before .before .enum-told4 .given .1)))
 
 returns-6 : tie.Need-returns-6
 unfolding ruled
-returns-6 c = λ w s. at-state (c .check-conflict .ensures) refl refl (sym (ap (ruled _ _ _) (c .before .before .before .enum-told5 .given .1)))
+returns-6 c = λ w s. at-state (c .check-conflict .ensures) refl refl (sym (ap (ruled _ _ _ _) (c .before .before .before .enum-told5 .given .1)))
 
 returns-7 : tie.Need-returns-7
 unfolding ruled
-returns-7 c = λ w s. at-state (c .commit .ensures) refl refl (sym (ap (ruled _ _ _) (c .before .before .enum-told6 .given .1)))
+returns-7 c = λ w s. at-state (c .commit .ensures) refl refl (sym (ap (ruled _ _ _ _) (c .before .before .enum-told6 .given .1)))
 
 returns-8 : tie.Need-returns-8
 unfolding ruled
-returns-8 c = λ w s. at-state (c .abort .ensures) refl refl (sym (ap (ruled _ _ _) (c .before .enum-told7 .given .1)))
+returns-8 c = λ w s. at-state (c .abort .ensures) refl refl (sym (ap (ruled _ _ _ _) (c .before .enum-told7 .given .1)))
 
 pub decide-spec : {M : Type 1} → statement M
 decide-spec =

@@ -9,13 +9,13 @@ returns : tie.Need-returns
 unfolding enterIndex
 returns c = λ w s. record { same = rw (ne-eqb _ _ (c .if1 .taken)) }
 
-names-other-requires : tie.Need-names-other-requires
-names-other-requires c κs = search needs
+blocked-requires : tie.Need-blocked-requires
+blocked-requires c κs = search needs
 
 returns-2 : tie.Need-returns-2
 unfolding enterIndex
-returns-2 c = let t = c .before in
-    λ w s. record { same = rw (eq-eqb _ _ (t .before .before .if1 .left), ← t .names-other .ensures, c .if2 .taken) }
+returns-2 c = let b = c .before in
+    λ w s. record { same = rw (eq-eqb _ _ (b .before .before .before .if1 .left), ← b .blocked .ensures s, c .if2 .taken) }
 
 cast-key : tie.Need-cast-key
 cast-key c = search needs
@@ -23,34 +23,34 @@ cast-key c = search needs
 element-copy-out-entry : tie.Need-element-copy-out-entry
 element-copy-out-entry c = search needs
 
-names-other-requires-2 : tie.Need-names-other-requires-2
-names-other-requires-2 c κs = search needs
+names-other-requires : tie.Need-names-other-requires
+names-other-requires c κs = search needs
 
 returns-3 : tie.Need-returns-3
 unfolding enterIndex
-returns-3 c = let t = c .before .before .before .before in
-    let n = c .before .names-other2 .ensures in
-    λ w s. record {
-      same =
-          rw (eq-eqb _ _ (t .before .before .before .if1 .left), ← t .before .names-other .ensures, t .if2 .left, ← n, c .if3 .taken);
-    }
+returns-3 c =
+    let b = c .before .before .before .before in
+    let n = c .before .names-other .ensures in
+    λ w s. record { same = rw (eq-eqb _ _ (b .before .before .before .before .if1 .left), ← b .before .blocked .ensures s, b .if2 .left, ← n, c .if3 .taken) }
 
 removes-unindexed-requires : tie.Need-removes-unindexed-requires
 removes-unindexed-requires c κs = search needs
 
 returns-4 : tie.Need-returns-4
 unfolding enterIndex
-returns-4 c = let t = c .before .before .before .before .before .before in
-    let n = c .before .before .before .names-other2 .ensures in
+returns-4 c =
+    let o = c .before .before in
+    let b = o .before .before .before .before in
+    let n = o .before .names-other .ensures in
     let r = c .before .removes-unindexed .ensures in
     λ w s. record {
       same =
           rw (
-            eq-eqb _ _ (t .before .before .before .if1 .left),
-            ← t .before .names-other .ensures,
-            t .if2 .left,
+            eq-eqb _ _ (b .before .before .before .before .if1 .left),
+            ← b .before .blocked .ensures s,
+            b .if2 .left,
             ← n,
-            c .before .before .if3 .left,
+            o .if3 .left,
             ← r,
             c .if4 .taken,
           );
@@ -62,33 +62,44 @@ add-index c = search needs
 element-write-index : tie.Need-element-write-index
 element-write-index c = search needs
 
-add-lock : tie.Need-add-lock
-add-lock c = search needs
+add-take-lock : tie.Need-add-take-lock
+add-take-lock c = search needs
+
+take-lock-requires : tie.Need-take-lock-requires
+take-lock-requires c κs = search needs
 
 with-made-requires : tie.Need-with-made-requires
 with-made-requires c κs = search needs
+
+after-index-requires : tie.Need-after-index-requires
+after-index-requires c κs = search needs
 
 moved-requires : tie.Need-moved-requires
 moved-requires c κs = search needs
 
 returns-5 : tie.Need-returns-5
 unfolding enterIndex
-returns-5 c = let f = c .before .before .before in
-    let t = f .before .before .before .before .before .before in
-    let n = f .before .before .before .names-other2 .ensures in
-    let r = f .before .removes-unindexed .ensures in
+returns-5 c =
+    let t = c .before .before .before in
+    let i = t .before .before .before in
+    let o = i .before .before in
+    let b = o .before .before .before .before in
+    let n = o .before .names-other .ensures in
+    let r = i .before .removes-unindexed .ensures in
     λ w s. record {
       same =
           rw (
             c .moved .ensures,
-            c .before .with-made .ensures,
-            eq-eqb _ _ (t .before .before .before .if1 .left),
-            ← t .before .names-other .ensures,
-            t .if2 .left,
+            c .before .before .with-made .ensures,
+            c .before .after-index .ensures,
+            t .take-lock .ensures,
+            eq-eqb _ _ (b .before .before .before .before .if1 .left),
+            ← b .before .blocked .ensures s,
+            b .if2 .left,
             ← n,
-            f .before .before .if3 .left,
+            o .if3 .left,
             ← r,
-            f .if4 .left,
+            i .if4 .left,
           );
     }
 
@@ -97,17 +108,19 @@ enter-index-spec =
     tie.close
     (tie.spec
     returns
-    names-other-requires
+    blocked-requires
     returns-2
     cast-key
     element-copy-out-entry
-    names-other-requires-2
+    names-other-requires
     returns-3
     removes-unindexed-requires
     returns-4
     add-index
     element-write-index
-    add-lock
+    add-take-lock
+    take-lock-requires
     with-made-requires
+    after-index-requires
     moved-requires
     returns-5)

@@ -1,0 +1,146 @@
+-- The tables that the traces begin with: the fresh ones, and others that no run reaches.
+use Prim.Native.Nat.{ℕ, _-_}
+use mathlib.Core.Bool.{true, false}
+use mathlib.Core.List.{List, [], _∷_, _++_}
+use lib.ListN.{length, replicate, set}
+use Rattle.model.specs.Limits.{writers, timestamps}
+use Rattle.model.specs.State.{Shared, State, ready, fresh, requested, inflight, completed, rowAt}
+use Rattle.model.specs.State.{withLast, withLocks, withIndex, withTimeline, withPresent, withValues}
+use Rattle.model.specs.Rules.{withMade}
+use Rattle.model.specs.declared.Mode.{Mode}
+use Rattle.model.specs.declared.Mode.the-variants.{Optimistic, Pessimistic}
+use Rattle.model.specs.declared.Writer.{Writer}
+use Rattle.traces.specs.Stories.{largestNumber}
+use Rattle.traces.specs.Stated.{tableLock}
+
+-- a fresh table of each mode
+abbrev pub optimistic : State
+optimistic = fresh Optimistic
+
+abbrev pub pessimistic : State
+pessimistic = fresh Pessimistic
+
+-- a table with all its numbers, in the pessimistic mode
+abbrev pub inPessimistic : State → State
+inPessimistic st = record { mode = Pessimistic; shared = st .shared; writers = st .writers }
+
+-- what writers share, with one row more, of key k and value v, in the slice of file group g and timestamp n
+abbrev pub withRow : ℕ → ℕ → ℕ → ℕ → Shared → Shared
+withRow g n k v s = withValues (withPresent s (set (s .present) (rowAt g n k) true)) (set (s .values) (rowAt g n k) v)
+
+-- what writers share, with another index entry of key k
+abbrev pub withEntry : Shared → ℕ → ℕ → Shared
+withEntry s k e = withIndex s (set (s .index) k e)
+
+-- what writers share, with another lock at a place
+abbrev pub withLockAt : Shared → ℕ → ℕ → Shared
+withLockAt s p l = withLocks s (set (s .locks) p l)
+
+-- what writers share where these instants are issued, and nothing else is done
+abbrev pub withInstants : List ℕ → Shared
+withInstants is = withTimeline (withLast (optimistic .shared) (length is)) (is ++ replicate (timestamps - length is) 0)
+
+-- eight instants: of those completed, 1 and 7 are in group 0, 2, 4 and 6 in group 1, and 5 is in group 3
+abbrev pub threeGroups : List ℕ
+threeGroups = completed 0 ∷ completed 1 ∷ requested ∷ completed 1 ∷ completed 3 ∷ completed 1 ∷ completed 0 ∷ inflight 1 ∷ []
+
+-- as many instants as a table has, the last of them completed in group 7
+abbrev pub lastCompleted : List ℕ
+lastCompleted = replicate 127 requested ++ completed 7 ∷ []
+
+-- an optimistic table whose writers are ready
+abbrev pub table : Shared → State
+table s = record { mode = Optimistic; shared = s; writers = replicate writers ready }
+
+-- a table whose writer w is x
+abbrev pub withWriter : State → ℕ → Writer → State
+withWriter st w x = record { mode = st .mode; shared = st .shared; writers = set (st .writers) w x }
+
+-- a writer with a put in progress, with one of 55, and with a remove
+abbrev pub putting : ℕ → ℕ → ℕ → ℕ → ℕ → ℕ → Writer
+putting value phase key group ts base =
+    record { phase = phase; put = true; made = false; key = key; group = group; ts = ts; base = base; value = value }
+
+abbrev pub busy : ℕ → ℕ → ℕ → ℕ → ℕ → Writer
+busy = putting 55
+
+abbrev pub removing : ℕ → ℕ → ℕ → ℕ → ℕ → Writer
+removing phase key group ts base = record { phase = phase; put = false; made = false; key = key; group = group; ts = ts; base = base; value = 0 }
+
+-- the same writer, which has made its key's index entry
+abbrev pub maker : Writer → Writer
+maker x = withMade x true
+
+-- timestamp 1 is inflight in group 0, and writer 0 is x
+abbrev pub oneInflight : Writer → State
+oneInflight x = withWriter (table (withInstants (inflight 0 ∷ []))) 0 x
+
+-- writer 0 stands at a phase, the others are ready
+abbrev pub atPhase : ℕ → State
+atPhase p = oneInflight (busy p 0 0 1 0)
+
+-- the same, where its value is the erased word
+abbrev pub erasedAtPhase : ℕ → State
+erasedAtPhase p = oneInflight (putting largestNumber p 0 0 1 0)
+
+-- timestamp 1 is completed in group 0, and another writer holds it in group 1
+abbrev pub otherGroupsTimestamp : State
+otherGroupsTimestamp = withWriter (table (withRow 0 1 0 10 (withInstants (completed 0 ∷ [])))) 1 (busy 3 5 1 1 0)
+
+-- the base of writer 0, in group 0, is a timestamp at which only group 1 has a slice
+abbrev pub otherGroupsBase : State
+otherGroupsBase = withWriter (table (withEntry (withRow 1 1 5 7 (withInstants (completed 1 ∷ inflight 0 ∷ []))) 5 2)) 0 (busy 3 2 0 2 1)
+
+-- writers 0 and 1 hold timestamp 1, in two groups
+abbrev pub oneTimestamp : State
+oneTimestamp = withWriter (oneInflight (busy 3 2 0 1 0)) 1 (busy 3 5 1 1 0)
+
+-- two groups show one key
+abbrev pub oneKeyTwice : State
+oneKeyTwice = table (withRow 1 1 5 7 (withRow 0 2 5 8 (withInstants (completed 1 ∷ completed 0 ∷ []))))
+
+-- in group 0 the slice of timestamp 1 has keys 0 and 2, and a value under key 1, which is absent; at timestamp 2 rows stand in groups 0 and 1;
+-- writer 0 removes key 2 in group 0 with a value in its record, writer 1 puts key 1 in group 1 with base 0
+abbrev pub staleRows : State
+staleRows =
+    let values = set (optimistic .shared .values) (rowAt 0 1 1) 11 in
+    let shared = withRow 0 1 0 10 (withRow 0 1 2 12 (withRow 0 2 1 13 (withRow 1 2 0 14 (withValues (withInstants (completed 0 ∷ inflight 0 ∷ [])) values)))) in
+    let remover : Writer = record { phase = 3; put = false; made = false; key = 2; group = 0; ts = 2; base = 1; value = 7 } in
+    withWriter (withWriter (table shared) 0 remover) 1 (busy 3 1 1 2 0)
+
+-- all timestamps are issued, writer 5 holds the lock, writer 1 is at phase 1, and writer 2 at phase 4 with a key of another group
+abbrev pub refusing : State
+refusing =
+    withWriter (withWriter (table (withEntry (withLockAt (withInstants (replicate 128 requested)) 0 6) 0 2)) 1 (busy 1 0 0 1 0)) 2 (busy 4 0 0 2 0)
+
+-- a table of a mode, with these locks, where timestamps 1 and 2 are completed in groups 0 and 1, key 5 is indexed to group 3, and writer 0 is x
+abbrev pub twoCompleted : Mode → List ℕ → Writer → State
+twoCompleted mode locks x =
+    record {
+      mode = mode;
+      shared = withEntry (withLocks (withInstants (completed 0 ∷ completed 1 ∷ [])) locks) 5 4;
+      writers = set (replicate writers ready) 0 x;
+    }
+
+-- the same, optimistic, where writer 5 holds the lock, or writer 0, or nobody
+abbrev pub holding : Writer → State
+holding = twoCompleted Optimistic (tableLock 6)
+
+abbrev pub ownLock : Writer → State
+ownLock = twoCompleted Optimistic (tableLock 1)
+
+abbrev pub unlocked : Writer → State
+unlocked = twoCompleted Optimistic (tableLock 0)
+
+-- n timestamps are issued, and every other number is the largest in range; one row is shown at timestamp 1
+abbrev pub atLargest : ℕ → State
+atLargest n =
+    record {
+      mode = Optimistic;
+      shared = withRow 7 1 0 largestNumber (withIndex (withLocks (withInstants (replicate n (completed 7))) (replicate 8 16)) (replicate 32 8));
+      writers = replicate writers (maker (putting largestNumber 6 31 7 n n));
+    }
+
+-- the same, with something else in what writers share, or in one writer
+abbrev pub atLargestBut : ℕ → (Shared → Shared) → State
+atLargestBut n change = record { mode = Optimistic; shared = change (atLargest n .shared); writers = atLargest n .writers }
