@@ -1,7 +1,7 @@
 // Tables that are set by hand: in range, though no steps lead to them.
 mod entries;
 mod groups;
-mod locks;
+mod held_locks;
 mod numbers;
 mod set;
 
@@ -10,11 +10,11 @@ fn main() {
     groups::base_of_another_group();
     groups::two_groups_at_once();
     groups::one_key_twice();
-    locks::held_by_none();
-    locks::two_held();
-    locks::at_phase_5();
-    locks::held_by_another();
-    locks::of_each_mode();
+    held_locks::held_by_none();
+    held_locks::two_held();
+    held_locks::at_phase_5();
+    held_locks::held_by_another();
+    held_locks::of_each_mode();
     numbers::not_given();
     entries::said_to_be_made();
 }
