@@ -673,12 +673,17 @@ class Checked:
         self.history = History()
         self.answers: list[Answer] = []
         self.stable: dict[int, list[Row]] = {}
+        self.stored: dict[int, dict[int, int]] = {}
 
     def step(self, step: Step, timestamps: Sequence[int]) -> None:
         """Take a step and check the listings at these timestamps."""
         answer = self.table.step(step)
         self.answers.append(answer)
         self.history.record(step, answer, self.table)
+        if step.action is Action.WRITE and answer == Answer.TAKEN:
+            writer = self.table.writers[step.writer]
+            rows = self.table.slices[writer.group, writer.timestamp]
+            self.stored[writer.timestamp] = dict(rows)
         if answer < Answer.NO_SUCH_WRITER:
             for timestamp in timestamps:
                 self.check_rows(timestamp)
@@ -691,15 +696,20 @@ class Checked:
 
     def check_rows(self, timestamp: int) -> None:
         """The listing is the history's, a stable one is what it was, and no value is
-        the erased word.
+        the erased word; below the horizon there is none (Q-13).
         """
+        if timestamp < self.table.horizon:
+            refused = self.table.scan(timestamp, []) == (Answer.BELOW_HORIZON, 0)
+            require(refused, f"listed below the horizon: {timestamp}")
+            return
         rows = self.table.snapshot(timestamp)
         require(rows == self.history.rows(timestamp), f"rows at {timestamp}")
         require(rows == self.stable.get(timestamp, rows), f"stability at {timestamp}")
         require(all(row.value != ERASED_WORD for row in rows), f"erased at {timestamp}")
 
     def note_stable(self) -> None:
-        for timestamp in range(1, self.history.last_timestamp + 1):
+        first = max(1, self.table.horizon)
+        for timestamp in range(first, self.history.last_timestamp + 1):
             if timestamp not in self.stable and self.history.is_stable(timestamp):
                 self.stable[timestamp] = self.table.snapshot(timestamp)
 
@@ -741,16 +751,18 @@ class Checked:
         require(all(writer.phase != Phase.CHECK for _, writer in numbered), "phase 5")
 
     def check_groups(self) -> None:
-        """No key stands in the committed slices of two groups."""
+        """No key stands in the committed slices of two groups, as they were stored."""
         group_of: dict[int, int] = {}
         for timestamp, (_, group) in self.history.committed.items():
-            for key in self.table.slices[group, timestamp]:
+            for key in self.stored[timestamp]:
                 require(group_of.setdefault(key, group) == group, f"two groups: {key}")
 
     def check_everywhere(self) -> None:
         """Check the listing at every timestamp, and the scan with its room."""
         for timestamp in (*range(self.history.last_timestamp + 2), 2**64 - 1):
             self.check_rows(timestamp)
+            if timestamp < self.table.horizon:
+                continue
             rows = self.history.rows(timestamp)
             numbers = [number for row in rows for number in row]
             buffer = [0] * len(numbers)

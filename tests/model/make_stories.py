@@ -1,6 +1,6 @@
 #!/usr/bin/env python3
 """Write what the programs stories, calls, encoding, reading, tables,
-out_of_range and searches have to print.
+cleaned_tables, out_of_range and searches have to print.
 
     python3 tests/model/make_stories.py CRATES
 
@@ -15,7 +15,7 @@ from __future__ import annotations
 import copy
 import itertools
 import sys
-from collections.abc import Iterator, Sequence
+from collections.abc import Callable, Iterator, Sequence
 from dataclasses import replace
 from pathlib import Path
 
@@ -149,6 +149,11 @@ def point_line(table: Table, at: int, key: int) -> str:
     else:
         text = f"{found.value} in group {found.group}"
     return f"key {key} at {at}: {text}"
+
+
+def clean_line(table: Table, at: int) -> str:
+    """A clean's answer; the table is cleaned."""
+    return f"clean at {at}: {table.clean(at):d}"
 
 
 def written(label: str, answer: int, count: int, buffer: bytes) -> str:
@@ -643,6 +648,14 @@ def calls() -> Iterator[str]:
         if once:
             yield "-- step by step"
 
+    for title, puts in (
+        ("Reads and the horizon", whole),
+        ("Reads and the horizon, pessimistic", committing),
+    ):
+        yield f"== {title}"
+        mode = Mode.OPTIMISTIC if puts is whole else Mode.PESSIMISTIC
+        yield from reads_and_horizon(Table(mode=mode), puts)
+
     yield "== No place for the next answer"
     for once in (True, False):
         table = Table()
@@ -653,6 +666,26 @@ def calls() -> Iterator[str]:
         yield numbers("all places:", [int(place) for place in places])
         if once:
             yield "-- step by step"
+
+
+def reads_and_horizon(
+    table: Table, all_steps: Callable[[int, Operation], list[Step]]
+) -> Iterator[str]:
+    """Reads below the horizon, at it and above it (Q-13)."""
+    puts = Put(1, 10, 1), Put(2, 20, 2), Put(1, 11, 1), Put(2, 21, 2)
+    put_twice = [all_steps(writer, put) for writer, put in enumerate(puts, 1)]
+    log = encode(sum(put_twice, []))
+    yield from ran(table, "two keys are put, and put again", log, [0] * 28)[0]
+    yield clean_line(table, 3)
+    for at, key in ((2, 1), (2, 32), (0, MAX_NUMBER), (3, 1), (3, 32)):
+        yield point_line(table, at, key)
+    for at in (2**8 + 2, 2**32 + 2, NEVER_ISSUED):
+        yield point_line(table, at, 2)
+    for at, room in ((2, 0), (2, 5), (2, 6), (3, 5), (3, 8)):
+        yield scan_into(table, at, room)
+    for at in (2**8 + 2, NEVER_ISSUED):
+        yield scan_into(table, at, 6)
+    yield from (instant_line(table, at) for at in range(4))
 
 
 def encoding() -> Iterator[str]:
@@ -896,6 +929,146 @@ def hand_set() -> Iterator[str]:
     )
 
 
+def stored_line(table: Table, values: dict[tuple[int, int, int], int]) -> str:
+    """The rows that a table was set with, each its group, timestamp, key and value; a
+    dropped one is absent, and keeps its value.
+    """
+    line = "rows:"
+    for timestamp, group, key in sorted(values):
+        value = values[timestamp, group, key]
+        shown = key in table.slices.get((group, timestamp), {})
+        line += f" {group} {timestamp} {key} {value}{'' if shown else ' absent'},"
+    return line
+
+
+def cleaned(table: Table, *timestamps: int) -> Iterator[str]:
+    """Cleans of a table, and the rows that it was set with after each."""
+    values = {
+        (timestamp, group, key): value
+        for (group, timestamp), rows in table.slices.items()
+        for key, value in rows.items()
+    }
+    for at in timestamps:
+        yield clean_line(table, at)
+        yield stored_line(table, values)
+
+
+def clean_story(
+    title: str,
+    table: Table,
+    timestamps: Sequence[int],
+    first: int,
+    last: int,
+    *pieces: Piece,
+) -> Iterator[str]:
+    """Cleans of a table, and a script on what they leave."""
+    yield f"== {title}"
+    yield from cleaned(table, *timestamps)
+    yield from played(table, first, last, *pieces)
+
+
+AS_IT_IS = ("as it is", [])
+
+
+def cleaned_by_hand() -> Iterator[str]:
+    """Q-13 on tables in range that no steps lead to."""
+    in_0, in_1, in_3, in_7 = map(completed, (0, 1, 3, 7))
+    yield from clean_story(
+        "A dropped slice and the rows beside it",
+        table_of(
+            5,
+            {1: in_7, 2: in_3, 3: in_3, 4: inflight(3)},
+            {},
+            {
+                (3, 1): {5: 10},
+                (7, 1): {31: 11},
+                (2, 2): {0: 20, 31: 21},
+                (3, 2): {0: 22, 15: 23, 31: 24},
+                (4, 2): {0: 25, 31: 26},
+                (0, 3): {0: 30},
+                (3, 3): {1: 31},
+                (3, 4): {2: 40},
+            },
+        ),
+        (1, 2, 3, 5), 2, 5, AS_IT_IS,
+    )
+    full = MAX_TIMESTAMP
+    yield from clean_story(
+        "The first slice and the last",
+        table_of(
+            full,
+            {1: in_0, 2: in_0, full - 1: in_7, full: in_7},
+            {},
+            {
+                (0, 1): {0: 10, 31: 11},
+                (0, 2): {0: 12},
+                (7, full - 1): {0: 13, 31: 14},
+                (7, full): {0: 15, 31: 16},
+            },
+            mode=Mode.PESSIMISTIC,
+        ),
+        (0, 1, 2, full - 1, full, full + 1), full - 1, full + 1, AS_IT_IS,
+    )
+    yield from clean_story(
+        "A completed instant without a slice",
+        table_of(
+            3,
+            {1: in_3, 2: in_3, 3: inflight(3)},
+            {0: at_write(Put(2, 20, 3), 3, 2)},
+            {(3, 1): {1: 10}},
+        ),
+        (1, 2, 3), 2, 3,
+        AS_IT_IS,
+        ("writer 0 commits", steps(0, WRITE, COMMIT)),
+    )
+    yield from clean_story(
+        "A horizon that no clean has set",
+        table_of(
+            4,
+            dict.fromkeys(range(1, 5), in_3),
+            {},
+            {(3, timestamp): {1: 9 + timestamp} for timestamp in range(1, 5)},
+            horizon=3,
+        ),
+        (2, 5, 3), 1, 5,
+        AS_IT_IS,
+        ("key 1 is put", whole(0, Put(1, 14, 3))),
+    )
+    yield from clean_story(
+        "A base of another file group",
+        table_of(
+            5,
+            {1: in_1, 2: in_0, 3: in_1, 4: in_0, 5: inflight(0)},
+            {0: at_write(Put(5, 50, 0), 5, 1)},
+            {(1, 1): {1: 10}, (0, 2): {2: 20}, (1, 3): {1: 11}, (0, 4): {2: 21}},
+        ),
+        (2, 3, 4, 5, 2), 2, 5,
+        ("writer 0 ends", steps(0, WRITE, CHECK)),
+    )
+    requested = Instant(State.REQUESTED)
+    for base in range(8):
+        table = table_of(
+            7,
+            {1: in_3, 2: in_3, 3: inflight(3), 4: requested, 6: in_3},
+            {2: Writer(Phase.WRITE, Remove(1), 7, 3, base)},
+            {(3, timestamp): {1: 9 + timestamp} for timestamp in range(2, 7)},
+        )
+        yield "== The base of writer 2"
+        yield f"base {base}"
+        yield from cleaned(table, 1, 2, 5, 6, 7)
+    for mode in Mode:
+        for number in (0, WRITERS - 1):
+            suffix = ", pessimistic" if mode is Mode.PESSIMISTIC else ""
+            yield f"== The base of writer {number}{suffix}"
+            for phase in Phase:
+                yield f"phase {phase:d}"
+                writer = Writer(phase, Put(2, 20, 3), 3, 3, 1)
+                slices = {(3, 1): {1: 10}, (3, 2): {1: 11}}
+                timeline = {1: in_3, 2: in_3}
+                table = table_of(3, timeline, {number: writer}, slices, mode=mode)
+                yield from cleaned(table, 1, 2)
+
+
 def with_locks(table: Table, locks: Sequence[int | None]) -> Table:
     """The table with these holders of the engine's eight locks: the first is the table
     lock of an optimistic table; else they are those of the groups.
@@ -1027,6 +1200,7 @@ def largest(last: int = MAX_TIMESTAMP) -> Table:
         WRITERS - 1,
         {place: WRITERS - 1 for place in range(1, GROUPS)},
         [Writer(Phase.COMMIT, put, last, group, last, True) for _ in range(WRITERS)],
+        horizon=last,
     )
 
 
@@ -1039,6 +1213,7 @@ def tried(title: str, table: Table) -> Iterator[str]:
     yield scan_into(table, MAX_TIMESTAMP, 4)
     yield scan_into(table, MAX_TIMESTAMP, 2)
     yield instant_line(table, MAX_TIMESTAMP)
+    yield clean_line(table, MAX_TIMESTAMP + 1)
 
 
 def grounds() -> Iterator[str]:
@@ -1065,11 +1240,17 @@ def grounds() -> Iterator[str]:
     above.timeline[MAX_TIMESTAMP] = Instant(State.REQUESTED)
     index = largest().index | {KEYS - 1: GROUPS}
     yield from tried("17: no ground", largest())
-    yield from tried("17: last timestamp", changed(last_timestamp=MAX_TIMESTAMP + 1))
+    above_all = MAX_TIMESTAMP + 1
+    too_large = changed(last_timestamp=above_all, horizon=above_all)
+    yield from tried("17: last timestamp", too_large)
     yield from tried("17: lock", locked(Mode.OPTIMISTIC, 0))
     yield from tried("17: index entry", changed(index=index))
     yield from tried("17: group of an instant", group_8)
     yield from tried("17: instant above the last timestamp", above)
+    passed = replace(largest(MAX_TIMESTAMP - 1), horizon=MAX_TIMESTAMP)
+    yield from tried("17: horizon", passed)
+    passed = replace(locked(Mode.PESSIMISTIC, None), horizon=above_all)
+    yield from tried("17: horizon, pessimistic", passed)
     for place in (3, 7):
         yield from tried(f"17: lock {place}", locked(Mode.OPTIMISTIC, place))
     yield from tried("17: no ground, pessimistic", locked(Mode.PESSIMISTIC, None))
@@ -1195,6 +1376,7 @@ PROGRAMS = {
     "encoding": (encoding,),
     "reading": (reading,),
     "tables": (hand_set,),
+    "cleaned_tables": (cleaned_by_hand,),
     "out_of_range": (grounds,),
     "searches": (searches,),
 }

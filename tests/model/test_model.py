@@ -13,7 +13,9 @@ import unittest
 from collections.abc import Sequence
 from dataclasses import replace
 
-from make_corpus import PROFILES, Draw, walk
+from make_cleaning import CheckedCleans, Clean
+from make_cleaning import walk as walk_with_cleans
+from make_corpus import PROFILES, Draw, operation_steps, walk
 from table_model import (
     ERASED_WORD,
     GROUPS,
@@ -756,6 +758,432 @@ class LocksSetByHand(unittest.TestCase):
                     self.assertTrue(table.in_range())
 
 
+class CleaningTest(TableTest):
+    """A fresh table, and cleans on it."""
+
+    def steps_of(self, writer: int, operation: Operation) -> list[Step]:
+        """All steps of an operation that commits in the table's mode."""
+        return operation_steps(writer, operation, self.MODE)
+
+    def commit(self, *operations: Operation, writer: int = 0) -> None:
+        """Carry out operations whole, one after the other."""
+        for operation in operations:
+            self.assert_last(1, self.steps_of(writer, operation))
+
+    def assert_clean(self, at: int, answer: int = 0) -> None:
+        """The clean has this answer; if it is refused the table stays, else nothing
+        but its slices and its horizon changes.
+        """
+        before = copy.deepcopy(self.table)
+        self.assertEqual(self.table.clean(at), answer)
+        if answer == 0:
+            self.assertEqual(self.table.horizon, at)
+            before.horizon, before.slices = at, self.table.slices
+        self.assertEqual(self.table, before)
+
+    def assert_slices(self, *slices: tuple[int, int]) -> None:
+        """These slices are left, each a group and a timestamp."""
+        self.assertEqual(set(self.table.slices), set(slices))
+
+    def assert_refused_below(self, horizon: int) -> None:
+        """Reads and scans are refused with 32 below the horizon, and not from it on."""
+        above = 2**8 + horizon - 1, 2**32 + horizon - 1, NEVER_ISSUED
+        for at in (*range(self.table.last_timestamp + 2), *above):
+            with self.subTest(at=at):
+                below = at < horizon
+                buffer = [9] * 99
+                answer, count = self.table.scan(at, buffer)
+                self.assertEqual(answer == 32, below)
+                if below:
+                    self.assertEqual((count, buffer), (0, [9] * 99))
+                self.assertEqual(self.table.point_read(0, at) == 32, below)
+
+    def two_groups(self) -> None:
+        """Timestamps 1, 2, 4 and 7 in group 3, and 3, 5 and 6 in group 5."""
+        self.commit(Put(1, 10, 3), Put(2, 20, 3), Put(3, 30, 5), Put(1, 11, 3))
+        self.commit(Put(3, 31, 5), Put(4, 40, 5), Put(2, 21, 3))
+
+
+class Cleaning(CleaningTest):
+    """Document 02's Q-13, in the optimistic mode."""
+
+    def test_a_fresh_table(self) -> None:
+        self.assertEqual(self.table.horizon, 0)
+        self.assert_rows(0)
+        self.assert_clean(0)
+        self.assert_clean(1, 34)
+        self.assert_rows(0)
+
+    def test_kept_and_dropped(self) -> None:
+        self.two_groups()
+        listings = [self.table.snapshot(at) for at in range(9)]
+        of_3, of_5 = [(3, at) for at in (1, 2, 4, 7)], [(5, at) for at in (3, 5, 6)]
+        for at, first_of_3, first_of_5 in (
+            (0, 0, 0), (1, 0, 0), (2, 1, 0), (3, 1, 0), (4, 2, 0),
+            (5, 2, 1), (6, 2, 2), (7, 3, 2), (7, 3, 2),
+        ):
+            with self.subTest(at=at):
+                self.assert_clean(at)
+                self.assert_slices(*of_3[first_of_3:], *of_5[first_of_5:])
+                self.assert_refused_below(at)
+                for seen in range(at, 9):
+                    self.assert_rows(seen, *listings[seen])
+
+    def test_one_clean_drops_what_many_do(self) -> None:
+        self.two_groups()
+        before = copy.deepcopy(self.table)
+        for at in range(8):
+            once = copy.deepcopy(before)
+            self.assertEqual((once.clean(at), self.table.clean(at)), (0, 0))
+            self.assertEqual(once, self.table)
+
+    def test_what_is_left_is_as_it_was(self) -> None:
+        self.two_groups()
+        before = copy.deepcopy(self.table.slices)
+        self.assert_clean(5)
+        for place, rows in self.table.slices.items():
+            self.assertEqual(rows, before[place])
+
+    def test_an_uncompleted_slice_stays(self) -> None:
+        self.take(*through(1, WRITE, Put(1, 10, 3)), Step(1, GIVE_UP))
+        slow = self.steps_of(2, Put(2, 20, 4))
+        self.take(*slow[:4])
+        self.commit(Put(3, 30, 3), Put(3, 31, 3))
+        self.assert_clean(4)
+        self.assert_slices((3, 1), (4, 2), (3, 4))
+        self.assert_last(1, slow[4:])
+        self.assert_rows(4, (2, 20, 4), (3, 31, 3))
+
+    def test_order_of_the_refusals(self) -> None:
+        """17, then 34, then 33."""
+        self.commit(Put(1, 10, 3), Put(1, 11, 3))
+        self.table.writers[5] = Writer(Phase.WRITE, Put(1, 12, 3), 2, 3, 1)
+        for at in (3, 2**8 + 2, 2**32 + 2, NEVER_ISSUED):
+            self.assert_clean(at, 34)
+        self.assert_clean(2, 33)
+        self.table.writers[5].phase = Phase.INDEX
+        self.assert_clean(1)
+        self.table.writers[5].phase = Phase.WRITE
+        self.assert_clean(0, 34)
+        self.assert_clean(2, 33)
+        for out_of_range in ({"horizon": 3}, {"lock": WRITERS}, {"last_timestamp": 1}):
+            table = replace(copy.deepcopy(self.table), **out_of_range)
+            before = copy.deepcopy(table)
+            for at in (0, 1, 2, 3, NEVER_ISSUED):
+                self.assertEqual(table.clean(at), 17)
+            self.assertEqual(table, before)
+
+    def test_a_horizon_above_the_last_timestamp(self) -> None:
+        self.commit(Put(1, 10, 3))
+        self.table.horizon = 1
+        self.assertTrue(self.table.in_range())
+        self.table.horizon = 2
+        before = copy.deepcopy(self.table)
+        self.assertEqual(self.take(Step(16, Put(32, 0, 8))), [17])
+        self.assertEqual(self.table.point_read(32, 0), 17)
+        self.assertEqual(self.table.scan(0, []), (17, 0))
+        self.assertEqual(self.table.instant(1), 17)
+        self.assertEqual(self.table.clean(NEVER_ISSUED), 17)
+        self.assertEqual(self.table, before)
+
+    def test_below_the_horizon_and_at_it(self) -> None:
+        self.two_groups()
+        self.assert_clean(3)
+        self.assert_clean(2, 34)
+        self.assert_clean(0, 34)
+        self.assert_clean(3)
+        self.assert_clean(7)
+        self.assert_clean(6, 34)
+
+    def test_an_issued_timestamp_is_enough(self) -> None:
+        """Whatever became of its operation."""
+        self.take(Step(0, Put(1, 10, 3)))
+        self.assert_clean(1)
+        self.take(Step(0, GIVE_UP), Step(1, Remove(1)))
+        self.assert_clean(2)
+        self.assert_clean(3, 34)
+
+    def test_32_before_12_and_31(self) -> None:
+        self.two_groups()
+        self.assert_clean(5)
+        for key in (1, 31, 32, MAX_NUMBER):
+            self.assertEqual(self.table.point_read(key, 4), 32)
+        self.assertEqual(self.table.point_read(32, 5), 12)
+        for room in range(9):
+            buffer = [9] * room
+            self.assertEqual(self.table.scan(4, buffer), (32, 0))
+            self.assertEqual(self.table.scan(5, buffer), (31, 0))
+            self.assertEqual(buffer, [9] * room)
+
+    def test_instants_stay_completed(self) -> None:
+        """In the instant call also below the horizon."""
+        self.two_groups()
+        before = [self.table.instant(at) for at in range(9)]
+        self.assert_clean(7)
+        self.assertEqual([self.table.instant(at) for at in range(9)], before)
+        self.assertEqual(before[1], Instant(State.COMPLETED, 3))
+
+    def test_a_read_is_too_late_for_a_dropped_slice_s_instant(self) -> None:
+        """As it is for the kept one above it."""
+        self.take(Step(1, Put(1, 9, 3)))
+        self.commit(Put(1, 10, 3), Put(1, 11, 3))
+        self.assert_clean(3)
+        self.assert_slices((3, 3))
+        self.assert_last(3, through(1, READ))
+
+    def test_commits_at_or_below_the_horizon(self) -> None:
+        """The same clean again drops what such a commit has replaced."""
+        slow = self.steps_of(1, Put(1, 11, 3))
+        self.commit(Put(1, 10, 3))
+        self.take(*slow[:4])
+        self.commit(Put(2, 20, 4))
+        self.assert_clean(3)
+        self.assert_slices((3, 1), (3, 2), (4, 3))
+        self.assert_rows(3, (1, 10, 3), (2, 20, 4))
+        self.assert_last(1, slow[4:])
+        self.assert_rows(3, (1, 11, 3), (2, 20, 4))
+        self.assert_slices((3, 1), (3, 2), (4, 3))
+        self.assert_clean(3)
+        self.assert_slices((3, 2), (4, 3))
+        self.assert_rows(3, (1, 11, 3), (2, 20, 4))
+        self.assert_clean(3)
+        self.assert_slices((3, 2), (4, 3))
+
+    def test_a_group_s_first_commit_below_the_horizon(self) -> None:
+        slow = self.steps_of(1, Put(1, 10, 3))
+        self.take(*slow[:2])
+        self.commit(Put(2, 20, 4))
+        self.assert_clean(2)
+        self.assert_last(1, slow[2:])
+        self.assert_rows(2, (1, 10, 3), (2, 20, 4))
+        self.assert_clean(2)
+        self.assert_slices((3, 1), (4, 2))
+
+    def test_an_operation_in_progress_ends_as_without_the_clean(self) -> None:
+        """Cleaned at each of its phases, whichever timestamp is the horizon."""
+        rest = self.steps_of(1, Put(1, 12, 3))
+        for taken in range(len(rest) + 1):
+            for at in range(6):
+                for newer in (False, True):
+                    for last in (rest, [*rest[:taken], Step(1, GIVE_UP)]):
+                        self.assert_same_end(rest[:taken], at, newer, last[taken:])
+
+    def assert_same_end(
+        self, begun: list[Step], at: int, newer: bool, rest: list[Step]
+    ) -> None:
+        self.table = Table(mode=self.MODE)
+        self.commit(Put(1, 10, 3), Put(2, 20, 4), Put(1, 11, 3))
+        self.take(*begun)
+        if newer:
+            self.take(*self.steps_of(2, Put(2, 21, 3)), Step(2, GIVE_UP))
+        plain = copy.deepcopy(self.table)
+        answer = self.table.clean(at)
+        expected = [int(plain.step(step)) for step in rest]
+        with self.subTest(begun=len(begun), at=at, newer=newer, answer=answer):
+            self.assertEqual(self.take(*rest), expected)
+            for seen in range(at if answer == 0 else 0, 7):
+                self.assert_rows(seen, *plain.snapshot(seen))
+            self.assertEqual(self.table.timeline, plain.timeline)
+            self.assertEqual(self.table.index, plain.index)
+
+    def test_cleans_change_no_step_and_nothing_in_the_history(self) -> None:
+        """Demand 3 with cleans anywhere, and each answer as on a table that is not
+        cleaned: `CheckedCleans` has these claims.
+        """
+        answers = set()
+        for seed, profile in enumerate(PROFILES):
+            draw = Draw(seed)
+            table, checked = Table(mode=self.MODE), CheckedCleans(self.MODE)
+            for event in walk_with_cleans(draw, profile, 200, table, 0.1):
+                last = checked.history.last_timestamp
+                before = copy.deepcopy(checked.history)
+                answer = checked.take(event, range(last + 2))
+                if isinstance(event, Clean):
+                    answers.add(int(answer))
+                    self.assertEqual(checked.history, before)
+                    checked.check_everywhere()
+            self.assertEqual(table, checked.table)
+        self.assertLessEqual(answers, {0, 33, 34})
+        self.assertEqual(33 in answers, self.MODE is Mode.OPTIMISTIC)
+
+    def test_a_settled_listing_stays_until_a_clean_passes_it(self) -> None:
+        self.two_groups()
+        listings = [self.table.snapshot(at) for at in range(8)]
+        self.assert_clean(4)
+        self.commit(Put(1, 99, 3), Remove(3), Put(2, 98, 3), writer=2)
+        self.assert_clean(5)
+        for at in range(5, 8):
+            self.assert_rows(at, *listings[at])
+        self.assert_clean(10)
+        for at in range(10):
+            self.assertEqual(self.table.scan(at, [0] * 99), (32, 0))
+
+    def test_a_key_keeps_its_group(self) -> None:
+        """Also if all rows of the key are dropped."""
+        self.commit(Put(1, 10, 3), Remove(1))
+        self.assert_clean(2)
+        self.assert_rows(2)
+        self.commit(Put(1, 11, 5))
+        self.assert_rows(3, (1, 11, 3))
+
+
+class CleaningOfThePessimisticMode(Cleaning):
+    """Q-13 in a pessimistic table."""
+
+    MODE = Mode.PESSIMISTIC
+
+    def test_a_base_is_never_needed(self) -> None:
+        """Its group's lock keeps it the newest until it is copied."""
+        self.commit(Put(1, 10, 3), Put(1, 11, 3))
+        self.take(*through(1, READ, Put(1, 12, 3)), *through(2, READ, Put(2, 20, 3)))
+        self.commit(Put(4, 40, 4))
+        self.assert_clean(5)
+        self.assert_last(1, self.steps_of(1, Put(1, 12, 3))[3:])
+        self.assert_rows(5, (1, 12, 3), (4, 40, 4))
+
+
+class NeededBases(CleaningTest):
+    """Answer 33: "exactly if a writer at phase 3 has a base that would be dropped"."""
+
+    def begin(self) -> list[Step]:
+        """Writer 1 has base 1 in group 3, where timestamp 3 is completed. Its steps
+        from the write on are given.
+        """
+        self.commit(Put(1, 10, 3))
+        self.take(*through(1, READ, Put(2, 20, 3)))
+        self.commit(Put(1, 11, 3), Put(4, 40, 4))
+        self.assertEqual(self.table.writers[1].base, 1)
+        return between(1, WRITE, CHECK)
+
+    def test_only_if_it_would_be_dropped(self) -> None:
+        self.begin()
+        for at, answer in ((0, 0), (1, 0), (2, 0), (4, 33), (3, 33), (2, 0)):
+            self.assert_clean(at, answer)
+        self.assert_slices((3, 1), (3, 3), (4, 4))
+
+    def test_after_the_write_step(self) -> None:
+        rest = self.begin()
+        self.assert_clean(4, 33)
+        self.assertEqual(self.take(rest[0]), [0])
+        self.assert_clean(4)
+        self.assert_slices((3, 2), (3, 3), (4, 4))
+        self.assertEqual(self.table.slices[3, 2], {1: 10, 2: 20})
+        self.assert_last(5, rest[1:])
+
+    def test_an_uncompleted_slice_below_a_completed_one_stays(self) -> None:
+        rest = self.begin()
+        self.take(*rest[:2])
+        self.assert_clean(4)
+        self.assertEqual(self.take(rest[2]), [5])
+        self.assert_clean(4)
+        self.assert_slices((3, 2), (3, 3), (4, 4))
+
+    def test_after_giving_up(self) -> None:
+        self.begin()
+        self.assert_clean(4, 33)
+        self.assertEqual(self.take(Step(1, GIVE_UP)), [6])
+        self.assert_clean(4)
+        self.assert_slices((3, 3), (4, 4))
+
+    def test_at_phase_3_alone(self) -> None:
+        for phase in Phase:
+            with self.subTest(phase=phase):
+                self.table = Table(mode=self.MODE)
+                self.begin()
+                self.table.writers[1].phase = phase
+                self.assert_clean(4, 33 if phase == 3 else 0)
+
+    def test_each_writer_counts(self) -> None:
+        for number in range(WRITERS):
+            with self.subTest(number=number):
+                self.table = Table(mode=self.MODE)
+                self.commit(Put(1, 10, 3), Put(1, 11, 3))
+                writer = Writer(Phase.WRITE, Put(1, 12, 3), 2, 3, 1)
+                self.table.writers[number] = writer
+                self.assert_clean(1)
+                self.assert_clean(2, 33)
+
+    def test_base_0(self) -> None:
+        self.take(*through(1, READ, Put(2, 20, 3)))
+        self.commit(Put(1, 10, 3), Put(1, 11, 3))
+        self.assertEqual(self.table.writers[1].base, 0)
+        self.assert_clean(3)
+        self.assert_slices((3, 3))
+        self.assert_last(5, between(1, WRITE, CHECK))
+
+    def set_writer(self, group: int, base: int, **timeline: Instant) -> None:
+        """A writer at phase 3, in a table that no steps lead to."""
+        self.table = Table(4, mode=self.MODE)
+        self.table.timeline = {int(at[1:]): on for at, on in timeline.items()}
+        for number, instant in self.table.timeline.items():
+            if instant.group is not None:
+                self.table.slices[instant.group, number] = {number: number}
+        writer = Writer(Phase.WRITE, Put(9, 90, group), 4, group, base)
+        self.table.writers[7] = writer
+
+    def test_the_base_s_own_instant_decides(self) -> None:
+        """Not the writer's group. Reached from no fresh table."""
+        in_3, in_5 = Instant(State.COMPLETED, 3), Instant(State.COMPLETED, 5)
+        for group in (3, 5, 6):
+            with self.subTest(group=group):
+                self.set_writer(group, 1, t1=in_5, t2=in_3, t3=in_3)
+                self.assert_clean(4)
+                self.set_writer(group, 2, t1=in_5, t2=in_3, t3=in_3)
+                self.assert_clean(2)
+                self.assert_clean(3, 33)
+                self.set_writer(group, 1, t1=in_5, t2=in_3, t3=in_5)
+                self.assert_clean(2)
+                self.assert_clean(4, 33)
+
+    def test_a_base_that_is_not_completed(self) -> None:
+        for instant in (REQUESTED, Instant(State.INFLIGHT, 3)):
+            with self.subTest(instant=instant):
+                newer = Instant(State.COMPLETED, 3)
+                self.set_writer(3, 1, t1=instant, t2=newer, t3=newer)
+                self.assert_clean(4)
+        self.set_writer(3, 1, t2=Instant(State.COMPLETED, 3))
+        self.assert_clean(4)
+
+    def test_a_base_without_a_slice(self) -> None:
+        """Its instant is completed, and that counts."""
+        in_3 = Instant(State.COMPLETED, 3)
+        self.set_writer(3, 1, t1=in_3, t2=in_3)
+        del self.table.slices[3, 1]
+        self.assert_clean(1)
+        self.assert_clean(2, 33)
+
+
+class CleanedByHand(unittest.TestCase):
+    """Q-13 on tables that no steps lead to."""
+
+    def test_a_slice_of_another_group_than_its_instant_s_stays(self) -> None:
+        in_3 = Instant(State.COMPLETED, 3)
+        table = Table(3, {1: in_3, 2: in_3, 3: in_3})
+        table.slices = {(group, 1): {group: 10} for group in (2, 3, 4)}
+        self.assertEqual(table.clean(3), 0)
+        self.assertEqual(table.slices, {(2, 1): {2: 10}, (4, 1): {4: 10}})
+
+    def test_a_completed_instant_without_a_slice(self) -> None:
+        """It is the newest of its group, and shows no rows."""
+        in_3 = Instant(State.COMPLETED, 3)
+        table = Table(2, {1: in_3, 2: in_3}, {(3, 1): {1: 10}})
+        self.assertEqual(table.clean(2), 0)
+        self.assertEqual(table.slices, {})
+        self.assertEqual(table.scan(2, []), (0, 0))
+
+    def test_a_base_that_is_dropped_behind_a_writer_at_its_read(self) -> None:
+        """The read step sets the base anew."""
+        for mode in Mode:
+            in_3 = Instant(State.COMPLETED, 3)
+            table = Table(3, {1: in_3, 2: in_3}, {(3, 1): {1: 10}, (3, 2): {1: 11}})
+            table.mode = mode
+            table.writers[0] = Writer(Phase.READ, Put(2, 20, 3), 3, 3, 1)
+            self.assertEqual(table.clean(3), 0)
+            self.assertEqual(table.step(Step(0, READ)), 0)
+            self.assertEqual(table.step(Step(0, WRITE)), 0)
+            self.assertEqual(table.slices, {(3, 2): {1: 11}, (3, 3): {1: 11, 2: 20}})
+
+
 class ConflictSearch(unittest.TestCase):
     """Document 02's Q-2."""
 
@@ -886,6 +1314,7 @@ class OutOfRange(TableTest):
         self.assertEqual(self.table.scan(1, buffer), (17, 0))
         self.assertEqual(buffer, [9] * 99)
         self.assertEqual(self.table.instant(1), 17)
+        self.assertEqual(self.table.clean(NEVER_ISSUED), 17)
         self.assertEqual(self.table, before)
 
     def test_reached_table(self) -> None:
@@ -896,6 +1325,7 @@ class OutOfRange(TableTest):
             ("last_timestamp", 129),
             ("last_timestamp", 1),
             ("lock", 16),
+            ("horizon", 3),
             ("index", {1: 8}),
             ("index", {32: 0}),
             ("timeline", {3: REQUESTED}),

@@ -1,4 +1,5 @@
-// What the calls answer: the limits, point reads, instants, scans into buffers of any size, and a run with too few places.
+// What the calls answer: the limits, point reads, instants, scans into buffers of any size, reads below the horizon, and a run with too few places.
+mod horizon;
 mod limits;
 mod reads;
 mod runs;
@@ -8,5 +9,6 @@ fn main() {
     reads::reads();
     reads::instants();
     reads::room();
+    horizon::horizon();
     runs::no_place();
 }

@@ -1,12 +1,12 @@
 // What the log writer and the number writer store, and that they store nothing where they refuse.
 ghost use mathlib.Core.Path.{_≡_};
-ghost use Rattle.steplog.specs.Writing.{logWritten};
+ghost use Rattle.logwriter.specs.Writing.{logWritten};
 ghost use Rattle.encoding.specs.Steps.{putAndLookUp};
 use common::Word;
+use logwriter::Written;
 use model::Action;
 use model::Operation;
 use model::Step;
-use steplog::Written;
 
 // The largest number.
 const LARGEST: Word = 18446744073709551615;
@@ -35,7 +35,7 @@ fn write_two(buffer: &mut [u8], at: usize) -> Written
     ensures { λ r. ⌜ record { answer = r .answer; count = r .count; buffer = now (buffer .exit) } ≡ logWritten putAndLookUp (now (buffer .entry)) at ⌝ }
 {
     let steps = put_and_look_up();
-    steplog::write_log(&steps, buffer, at)
+    logwriter::write_log(&steps, buffer, at)
 }
 
 fn write_printed(label: &[u8], at: usize) {

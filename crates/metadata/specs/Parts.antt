@@ -9,6 +9,7 @@ abbrev pub withParts : State → ℕ → List ℕ → List Writer → List ℕ �
 withParts st last locks writers index timeline =
     record {
       mode = st .mode;
+      horizon = st .horizon;
       shared = withTimeline (withIndex (withLocks (withLast (st .shared) last) locks) index) timeline;
       writers = writers;
     }

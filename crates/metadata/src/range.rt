@@ -98,16 +98,21 @@ fn largest(numbers: &[u8], from: usize) -> u8
     most
 }
 
-// Are the numbers that all writers share in range? If so, the writers decide.
+// Are the horizon and the numbers that all writers share in range? If so, the writers decide.
 fn shared_in_range<'a>(
+    horizon: u8,
     last: u8,
     locks: &'a [u8; GROUPS],
     index: &'a [u8; KEYS],
     timeline: &'a [u8; TIMESTAMPS],
 ) -> bool
-    ensures { λ r. ⌜ ((st : State) (ws : List Writer) → inRange (withParts st last (now (locks .entry)) ws (now (index .entry)) (now (timeline .entry))) ≡ (r && writersInRange last ws)) ⌝ }
+    ensures { λ r. ⌜ ((st : State) (ws : List Writer) → st .horizon ≡ horizon
+        → inRange (withParts st last (now (locks .entry)) ws (now (index .entry)) (now (timeline .entry))) ≡ (r && writersInRange last ws)) ⌝ }
 {
     if last > TIMESTAMPS as u8 {
+        return false;
+    }
+    if horizon > last {
         return false;
     }
     if largest(locks, 0) > WRITERS as u8 {
@@ -125,15 +130,17 @@ fn shared_in_range<'a>(
 // Is every stored number of a table in its range? The table comes in its parts, so that no caller copies it whole for the test, and the writers are
 // tested here, so that they are not copied on.
 pub fn parts_in_range<'a>(
+    horizon: u8,
     last: u8,
     locks: &'a [u8; GROUPS],
     writers: [Writer; WRITERS],
     index: &'a [u8; KEYS],
     timeline: &'a [u8; TIMESTAMPS],
 ) -> bool
-    ensures { λ r. ⌜ ((st : State) → r ≡ inRange (withParts st last (now (locks .entry)) writers (now (index .entry)) (now (timeline .entry)))) ⌝ }
+    ensures { λ r. ⌜ ((st : State) → st .horizon ≡ horizon
+        → r ≡ inRange (withParts st last (now (locks .entry)) writers (now (index .entry)) (now (timeline .entry)))) ⌝ }
 {
-    if !shared_in_range(last, locks, index, timeline) {
+    if !shared_in_range(horizon, last, locks, index, timeline) {
         return false;
     }
     let mut w: usize = 0;
@@ -154,5 +161,5 @@ pub fn in_range(t: Table) -> bool
     let writers = t.writers;
     let index = t.index;
     let timeline = t.timeline;
-    parts_in_range(t.last, &locks, writers, &index, &timeline)
+    parts_in_range(t.horizon, t.last, &locks, writers, &index, &timeline)
 }

@@ -17,7 +17,8 @@ use Rattle.model.specs.Binding.{putsOn, Bound, byCommitted, byPending}
 use Rattle.model.specs.declared.Writer.{Writer}
 use Rattle.model.specs.declared.Operation.{Operation}
 use Rattle.model.specs.declared.Operation.the-variants.{Put, Remove}
-use Rattle.model.proofs.Moves.{View, leftBy}
+use Rattle.model.proofs.NewestCommitted.{leftBy}
+use Rattle.model.proofs.Moves.{View}
 
 module _ {k : ℕ} where
   pub puts-on : (op : Operation) (r : ℕ) → keyOf op ≡ k → leftBy op ≡ some r → putsOn k op ≡ true

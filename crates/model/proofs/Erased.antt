@@ -1,12 +1,12 @@
--- The erased word is never put (document 02, Q-3): after any list of steps from a fresh table of either mode,
+-- The erased word is never put (document 02, Q-3): after any list of events from a fresh table of either mode,
 --     never-erased    no operation in progress, and no committed one, is a put of the erased word
---     never-listed    no row at any timestamp, and so no row of a scan, has it as its value
-use Prim.Native.Nat.{ℕ}
+--     never-listed    no row at any timestamp at or above the horizon, and so no row of a scan, has it as its value
+use Prim.Native.Nat.{ℕ, _≤_}
 use mathlib.Core.Path.{_≡_, refl, subst⁻¹, ap, _∙_}
 use mathlib.Core.Logic.{_≢_}
 use mathlib.Core.Bool.{false}
 use mathlib.Core.List.{List, _∷_, List·Memᴰ, List·Memᴰ·head, List·Memᴰ·tail, List·Memᴰ·not-nil, List·Memᴰ·eq-of-singleton}
-use mathlib.Core.Option.{Option, none, some}
+use mathlib.Core.Option.{none, some}
 use borrow.Author.Tests.{eqb-false}
 use Rattle.common.specs.Counting.{upd}
 use Rattle.common.proofs.Functions.{none-some, upd-some, upd-none}
@@ -15,16 +15,16 @@ use Rattle.model.specs.Limits.{keys, erasedWord}
 use Rattle.model.specs.Rules.{putsErased}
 use Rattle.model.specs.Snapshot.{Row, rowsAt}
 use Rattle.model.specs.History.{Pending, Committed, History, empty, startRecorded, commitRecorded, endRecorded}
-use Rattle.model.specs.History.{newestOn, putRow, rowOfNewest, listing}
-use Rattle.model.specs.Isolation.{beginning, after}
+use Rattle.model.specs.History.{onKey, newestOn, putRow, rowOfNewest, listing}
+use Rattle.model.specs.Isolation.{Event, beginning, after, horizonAfter}
 use Rattle.model.specs.declared.Mode.{Mode}
 use Rattle.model.specs.declared.Operation.{Operation}
 use Rattle.model.specs.declared.Operation.the-variants.{Put, Remove}
-use Rattle.model.specs.declared.Step.{Step}
-use Rattle.model.proofs.CommittedAt.{newest-on-mem}
+use Rattle.model.proofs.NewestCommitted.{newest-ind}
 use Rattle.model.proofs.Executed.{executed-keeps}
-use Rattle.model.proofs.Moves.{View, Move, stays, starts, continues, ends, commits}
-use Rattle.model.proofs.StepMoves.{viewOf, Consistent, step-moves, step-consistent}
+use Rattle.model.proofs.Moves.{View, Move, stays, starts, continues, ends, commits, Change, moves, cleans}
+use Rattle.model.proofs.StepMoves.{viewOf, Consistent}
+use Rattle.model.proofs.EventChanges.{event-changes, event-consistent}
 use Rattle.model.proofs.Listing.{rows-listed}
 use Rattle.model.proofs.Isolation.{fresh-consistent, reached}
 
@@ -64,26 +64,28 @@ fresh-unerased : Unerased empty
 unfolding empty
 fresh-unerased = record { pending = λ w p e. absurd (none-some refl e); committed = λ c m. absurd (List·Memᴰ·not-nil m) }
 
-pub never-erased : (mode : Mode) (ss : List Step) → Unerased (after mode ss .history)
-never-erased mode ss =
+change-unerased : (v n : View) → Unerased (v .history) → Change v n → Unerased (n .history)
+change-unerased v n h (moves w m) = move-unerased v w h n m
+change-unerased v n h (cleans c cell kept e) = subst⁻¹ (λ (x : View). Unerased (x .history)) e h
+
+pub never-erased : (mode : Mode) (es : List Event) → Unerased (after mode es .history)
+never-erased mode es =
     executed-keeps (λ u. Consistent u × Unerased (u .history))
-    (λ u s (c, h). (step-consistent u s c, move-unerased (viewOf u) (s .writer) h _ (step-moves u s c))) (beginning mode) ss
+    (λ u e (c, h). (event-consistent u e c, change-unerased (viewOf u) _ h (event-changes u e c))) (beginning mode) es
     (fresh-consistent mode, fresh-unerased) .1
 
--- the row of a put, and that of the newest operation on a key
+-- the row of a put
 put-unerased : (op : Operation) (g : ℕ) → putsErased op ≡ false → (r : Row) → List·Memᴰ r (putRow op g) → r .value ≢ erasedWord
 put-unerased (Put k v g) group e r m = rw (List·Memᴰ·eq-of-singleton m) (eqb-false v erasedWord e)
 put-unerased (Remove k) group e r m = absurd (List·Memᴰ·not-nil m)
 
-row-unerased : (o : Option Committed) → ((c : Committed) → o ≡ some c → putsErased (c .operation) ≡ false) → (r : Row) → List·Memᴰ r (rowOfNewest o)
-    → r .value ≢ erasedWord
-row-unerased none f r m = absurd (List·Memᴰ·not-nil m)
-row-unerased (some c) f r m = put-unerased (c .operation) (c .group) (f c refl) r m
-
-pub never-listed : (mode : Mode) (ss : List Step) (t : ℕ) (r : Row) → List·Memᴰ r (rowsAt (after mode ss .state .shared) t) → r .value ≢ erasedWord
+pub never-listed : (mode : Mode) (es : List Event) (t : ℕ) → horizonAfter mode es ≤ t
+    → (r : Row) → List·Memᴰ r (rowsAt (after mode es .state .shared) t) → r .value ≢ erasedWord
 unfolding listing
-never-listed mode ss t =
-    let u = after mode ss in
-    rw (rows-listed u (reached mode ss) t)
+never-listed mode es t past =
+    let u = after mode es in
+    rw (rows-listed u (reached mode es) t past)
     (each-listed keys (λ k. rowOfNewest (newestOn (u .history .done) k t)) (λ r. r .value ≢ erasedWord)
-    (λ k. row-unerased (newestOn (u .history .done) k t) (λ c e. never-erased mode ss .committed c (newest-on-mem (u .history .done) k t c e))))
+    (λ k.
+    newest-ind (onKey k t) (λ o. (r : Row) → List·Memᴰ r (rowOfNewest o) → r .value ≢ erasedWord) (u .history .done) (λ r m. absurd (List·Memᴰ·not-nil m))
+    (λ c m _. put-unerased (c .operation) (c .group) (never-erased mode es .committed c m))))

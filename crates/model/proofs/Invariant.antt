@@ -1,9 +1,10 @@
 -- The invariant behind demand 3, over a view.
--- A writer's facts grow with its phase. The slice of a committed operation is the newest one of its group before it, changed at one key.
-use Prim.Native.Nat.{ℕ, pred, _+_, _≤_, _<_}
+-- A writer's facts grow with its phase. What the write step of a completed slice stored is what the committed operations of its file group left there;
+-- what that of another one stored is the same at its base, changed at one key. The table has what was stored wherever no clean has dropped it.
+use Prim.Native.Nat.{ℕ, _+_, _≤_, _<_}
 use mathlib.Core.Path.{_≡_, ap, _∙_}
 use mathlib.Core.Logic.{_≢_}
-use mathlib.Core.List.{List}
+use mathlib.Core.List.{List, List·Memᴰ}
 use mathlib.Core.Bool.{true}
 use mathlib.Core.Option.{Option, none, some}
 use native.Mathlib.Omega.{arith}
@@ -15,11 +16,9 @@ use Rattle.model.specs.History.{Pending, Committed}
 use Rattle.model.specs.Binding.{Bound}
 use Rattle.model.specs.declared.Mode.the-variants.{Optimistic}
 use Rattle.model.specs.declared.Writer.{Writer}
-use Rattle.model.specs.declared.Operation.{Operation}
 use Rattle.model.proofs.Modes.{lock-phase}
-use Rattle.model.proofs.Newest.{Newest}
-use Rattle.model.proofs.CommittedAt.{committedAt, Distinct, groupIn}
-use Rattle.model.proofs.Moves.{View, leftBy, leaves, rowsStored, guardOf}
+use Rattle.model.proofs.NewestCommitted.{leftBy, left}
+use Rattle.model.proofs.Moves.{View, leaves, guardOf, KeptAt}
 
 -- an operation in progress: `o` is the history's pending one, on key k, leaving r there, under the timestamp n;
 -- n is issued, and nothing is completed at it (`done` is what is)
@@ -42,7 +41,7 @@ pub record Based (completed : ℕ → Option ℕ) (g b n : ℕ) : Type 0 where
 pub record Made (done : List Committed) (x : Writer) : Type 0 where
   pub put : x .put ≡ true
   pub past : 4 < x .phase
-  pub new : (s : ℕ) (c : Committed) → committedAt done s ≡ some c → keyOf (c .operation) ≢ x .key
+  pub new : (c : Committed) → List·Memᴰ c done → keyOf (c .operation) ≢ x .key
 
 -- what holds of writer w, whose record is x, by its phase. From the step on that takes the lock, the writer holds the lock that guards its file group,
 -- and no other one; and while no check is to come, nothing of the group is completed above its base
@@ -50,8 +49,9 @@ pub record WriterFacts (v : View) (w : ℕ) (x : Writer) : Type 0 where
   pub ready : x .phase ≡ 0 → v .history .pending w ≡ none
   pub inProgress : 0 < x .phase → InProgress (v .history .pending w) (v .last) (v .completed (x .ts)) (x .key) (leaves x) (x .ts)
   pub based : 2 < x .phase → Based (v .completed) (x .group) (x .base) (x .ts)
-  pub written : 3 < x .phase → (k : ℕ) → v .cell (x .group) (x .ts) k ≡ rowsStored (v .cell) x k
-  pub stored : 3 < x .phase → v .stored (x .ts) ≡ v .cell (x .group) (x .ts)
+  pub readable : x .phase ≡ 3 → v .cell (x .group) (x .base) ≡ v .stored (x .base)
+  pub written : 3 < x .phase → v .stored (x .ts) ≡ upd (left (v .history .done) (x .group) (x .base)) (x .key) (leaves x)
+  pub inTable : 3 < x .phase → v .cell (x .group) (x .ts) ≡ v .stored (x .ts)
   pub indexed : 4 < x .phase → v .entry (x .key) ≡ x .group + 1
   pub made : x .made ≡ true → Made (v .history .done) x
   pub guards : lockPhase (v .mode) < x .phase → v .lock (guardOf v x) ≡ w + 1
@@ -59,21 +59,21 @@ pub record WriterFacts (v : View) (w : ℕ) (x : Writer) : Type 0 where
   pub checks : x .phase ≡ 5 → v .mode ≡ Optimistic
   pub latest : lockPhase (v .mode) < x .phase → x .phase ≢ 5 → (s : ℕ) → v .completed s ≡ some (x .group) → s ≤ x .base
 
--- what holds of the operation op, committed at s in group g
-pub record CommittedFacts (v : View) (s g : ℕ) (op : Operation) : Type 0 where
-  pub base : ℕ
-  pub newest : Newest (v .completed) g (pred s) base
-  pub rows : (k : ℕ) → v .cell g s k ≡ upd (v .cell g base) (keyOf op) (leftBy op) k
-  pub stored : v .stored s ≡ v .cell g s
-  pub indexed : v .entry (keyOf op) ≡ g + 1
+-- what holds of a committed operation
+pub record CommittedFacts (v : View) (c : Committed) : Type 0 where
+  pub completed : v .completed (c .ts) ≡ some (c .group)
+  pub indexed : v .entry (keyOf (c .operation)) ≡ c .group + 1
+
+-- s is completed in file group g, or 0, which has an empty slice
+abbrev pub CompletedIn : View → ℕ → ℕ → Type 0
+CompletedIn v g s = 0 < s → v .completed s ≡ some g
 
 pub record Invariant (v : View) : Type 0 where
   pub last : v .history .last ≡ v .last
-  pub distinct : Distinct (v .history .done)
-  pub linked : (s : ℕ) → v .completed s ≡ groupIn (committedAt (v .history .done) s)
   pub above : (s : ℕ) → v .last < s → v .completed s ≡ none
-  pub empty : (g k : ℕ) → v .cell g 0 k ≡ none
-  pub committed : (s : ℕ) (c : Committed) → committedAt (v .history .done) s ≡ some c → CommittedFacts v s (c .group) (c .operation)
+  pub committed : (c : Committed) → List·Memᴰ c (v .history .done) → CommittedFacts v c
+  pub rows : (g s : ℕ) → CompletedIn v g s → v .stored s ≡ left (v .history .done) g s
+  pub kept : (g s : ℕ) → CompletedIn v g s → KeptAt (v .completed) (v .horizon) s → v .cell g s ≡ v .stored s
   pub bound : (k : ℕ) → v .entry k ≢ 0 → Bound (v .history) (v .writer) k
   pub writer : (w : ℕ) → WriterFacts v w (v .writer w)
   pub unique : (a b : ℕ) → 0 < v .writer a .phase → 0 < v .writer b .phase → v .writer a .ts ≡ v .writer b .ts → a ≡ b
@@ -97,7 +97,3 @@ pub pending-key : (v : View) → Invariant v → (w : ℕ) (p : Pending) → 0 <
 pending-key v i w p busy is =
     let h = i .writer w .inProgress busy in
     ap (λ (q : Pending). keyOf (q .operation)) (some-inj is (h .is)) ∙ h .key
-
-pub committed-completed : (v : View) → Invariant v → (s : ℕ) (c : Committed) → committedAt (v .history .done) s ≡ some c
-    → v .completed s ≡ some (c .group)
-committed-completed v i s c e = i .linked s ∙ ap groupIn e

@@ -1,19 +1,21 @@
--- Every move keeps the invariant, what is completed and stored in completed slices, and the index entries of committed keys: `move-keeps`.
+-- Every change keeps the invariant, what is completed and what was stored in completed slices, and the index entries of committed keys: `move-keeps` for
+-- a step, `change-keeps` for every event.
 use Prim.Native.Nat.{ℕ, _+_}
 use mathlib.Core.Path.{_≡_, refl, sym, subst⁻¹, _∙_}
 use mathlib.Core.Logic.{_≢_}
 use mathlib.Core.Bool.{true, false≢true}
-use mathlib.Core.Option.{none, some}
+use mathlib.Core.Option.{Option, none, some}
 use native.Mathlib.Omega.{arith}
 use Rattle.model.specs.State.{ready}
 use Rattle.model.specs.Rules.{keyOf, begun}
 use Rattle.model.specs.History.{Pending, startRecorded, endRecorded}
 use Rattle.model.specs.declared.Operation.{Operation}
 use Rattle.common.proofs.Cases.{cond-iff}
-use Rattle.common.proofs.Functions.{upd-same, upd-other, upd-ind}
-use Rattle.model.proofs.Moves.{View, afterStart, afterEnd, Move, stays, starts, continues, ends, commits}
+use Rattle.common.proofs.Functions.{none-some, upd-same, upd-other, upd-ind}
+use Rattle.model.proofs.Moves.{View, afterStart, afterEnd, afterClean, Move, stays, starts, continues, ends, commits}
+use Rattle.model.proofs.Moves.{Cleaned, Change, moves, cleans}
 use Rattle.model.proofs.Invariant.{Invariant, one-past, pending-key}
-use Rattle.model.proofs.Kept.{Kept, unchanged, uncommitted}
+use Rattle.model.proofs.Kept.{Kept, unchanged, other-facts, committed-kept, uncommitted}
 use Rattle.model.proofs.Locks.{released-other, released-own}
 use Rattle.model.proofs.OwnFacts.{unread, ready-facts, begun-fields}
 use Rattle.model.proofs.Binding.{puts-key, still-bound}
@@ -32,12 +34,15 @@ module _ (v : View) (w : ℕ) (i : Invariant v) where
       uncommitted v n w x i
       (record {
         writer = refl;
+        horizon = refl;
         shared = unchanged v n refl (omega arith) refl refl refl refl;
+        cell = λ g s hit. refl;
         others =
             λ u ne.
             record {
               pending = upd-other (v .history .pending) w (some p) u ne;
               uncompleted = λ q. refl;
+              base = λ q hit. refl;
               cell = λ q. refl;
               stored = λ q. refl;
               entry = λ q. refl;
@@ -95,21 +100,23 @@ module _ (v : View) (w : ℕ) (i : Invariant v) where
       uncommitted v n w ready i
       (record {
         writer = refl;
+        horizon = refl;
         shared =
             record {
               mode = refl;
               last = omega arith;
-              completed = λ s g e. e;
-              newest = λ s g b e h. h;
-              entry = λ s c is. entry-stays (keyOf (c .operation)) (λ made. i .writer w .made made .new s c is);
-              cell = λ s g e. refl;
-              stored = λ s g e. refl;
+              completed = λ g s e. e;
+              entry = λ c m. entry-stays (keyOf (c .operation)) (λ made. i .writer w .made made .new c m);
+              stored = λ g s hit. refl;
+              left = λ g s hit. refl;
             };
+        cell = λ g s hit. refl;
         others =
             λ u ne.
             record {
               pending = pending u ne;
               uncompleted = λ q. refl;
+              base = λ q hit. refl;
               cell = λ q. refl;
               stored = λ q. refl;
               entry = λ q. entry-stays (v .writer u .key) (λ made e. ne (one-past v i u w q (i .writer w .made made .past) e));
@@ -137,3 +144,44 @@ move-keeps v n w i (starts op unerased at e) = subst⁻¹ (Kept v) e (start-keep
 move-keeps v n w i (continues p e) = subst⁻¹ (Kept v) e (phase-keeps v w i p)
 move-keeps v n w i (ends e) = subst⁻¹ (Kept v) e (end-keeps v w i)
 move-keeps v n w i (commits p at is e) = subst⁻¹ (Kept v) e (commit-keeps v w i p at is)
+
+-- a clean keeps it, since it is claimed of kept slices and of bases about to be copied alone
+clean-keeps : (v : View) (c : ℕ) (cell : ℕ → ℕ → ℕ → Option ℕ) → Invariant v → Cleaned v c cell → Kept v (afterClean v c cell)
+clean-keeps v c cell i h =
+    let n = afterClean v c cell in
+    let shared = unchanged v n refl (omega arith) refl refl refl refl in
+    record {
+      shared = shared;
+      invariant =
+          record {
+            last = i .last;
+            above = i .above;
+            committed = λ d m. committed-kept v n shared d m (i .committed d m);
+            rows = i .rows;
+            kept = λ g s hit kept. h .keeps s kept g ∙ i .kept g s hit (λ p f r e q low. kept p f r e q (omega (arith, h .rises)));
+            bound = i .bound;
+            writer =
+                λ u.
+                other-facts v n shared u (v .writer u)
+                (record {
+                  pending = refl;
+                  uncompleted = λ q. refl;
+                  base = λ q hit. h .bases u q _;
+                  cell =
+                      λ q.
+                      h .keeps _ (λ p g r e. absurd (none-some (i .writer u .inProgress (omega arith) .uncompleted) e)) _;
+                  stored = λ q. refl;
+                  entry = λ q. refl;
+                  made = λ m. m;
+                  guards = λ p e. e;
+                  holds = λ p e. e;
+                  latest = λ q s e. e;
+                })
+                (i .writer u);
+            unique = i .unique;
+          };
+    }
+
+pub change-keeps : (v n : View) → Invariant v → Change v n → Kept v n
+change-keeps v n i (moves w m) = move-keeps v n w i m
+change-keeps v n i (cleans c cell h e) = subst⁻¹ (Kept v) e (clean-keeps v c cell i h)

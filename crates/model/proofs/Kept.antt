@@ -1,10 +1,11 @@
--- What a move keeps, and the whole invariant from it. A move changes one writer: `other-facts` and `committed-facts` carry the facts over of the other
--- writers and of what is committed, `writer-facts` and `timestamps-unique` put the writers together, and `uncommitted` is the whole for a move that
--- commits nothing.
-use Prim.Native.Nat.{ℕ, pred, _+_, _≤_, _<_}
+-- What a change keeps, and the whole invariant from it. A move changes one writer: `other-facts`, `committed-kept`, `rows-kept` and `slice-kept` carry the
+-- facts over of the other writers, of committed operations and of completed slices, `writer-facts` and `timestamps-unique` put the writers together, and
+-- `uncommitted` is the whole for a move that commits nothing.
+use Prim.Native.Nat.{ℕ, _+_, _≤_, _<_}
 use mathlib.Core.Path.{_≡_, refl, sym, subst⁻¹, ap, _∙_}
 use mathlib.Core.Logic.{_≢_}
-use mathlib.Core.Option.{Option, some}
+use mathlib.Core.List.{List·Memᴰ}
+use mathlib.Core.Option.{some}
 use native.Mathlib.Omega.{arith}
 use Rattle.common.specs.Counting.{upd}
 use Rattle.model.specs.Modes.{lockPhase}
@@ -13,27 +14,26 @@ use Rattle.model.specs.History.{Committed}
 use Rattle.model.specs.Binding.{Bound}
 use Rattle.model.specs.declared.Writer.{Writer}
 use Rattle.common.proofs.Functions.{upd-ind}
-use Rattle.model.proofs.Newest.{Newest}
-use Rattle.model.proofs.CommittedAt.{committedAt}
-use Rattle.model.proofs.Moves.{View}
-use Rattle.model.proofs.Invariant.{Made, WriterFacts, CommittedFacts, Invariant, committed-completed}
+use Rattle.model.proofs.NewestCommitted.{left}
+use Rattle.model.proofs.Moves.{View, KeptAt}
+use Rattle.model.proofs.Invariant.{Made, WriterFacts, CommittedFacts, CompletedIn, Invariant}
 
--- what a move keeps of the part that all writers share
+-- what a change keeps of the part that all writers share
 pub record SharedKept (v n : View) : Type 0 where
   pub mode : n .mode ≡ v .mode
   pub last : v .last ≤ n .last
-  pub completed : (s g : ℕ) → v .completed s ≡ some g → n .completed s ≡ some g
-  pub newest : (s g b : ℕ) → v .completed s ≡ some g → Newest (v .completed) g (pred s) b → Newest (n .completed) g (pred s) b
-  pub entry : (s : ℕ) (c : Committed) → committedAt (v .history .done) s ≡ some c → n .entry (keyOf (c .operation)) ≡ v .entry (keyOf (c .operation))
-  pub cell : (s g : ℕ) → (0 < s → v .completed s ≡ some g) → n .cell g s ≡ v .cell g s
-  pub stored : (s g : ℕ) → v .completed s ≡ some g → n .stored s ≡ v .stored s
+  pub completed : (g s : ℕ) → v .completed s ≡ some g → n .completed s ≡ some g
+  pub entry : (c : Committed) → List·Memᴰ c (v .history .done) → n .entry (keyOf (c .operation)) ≡ v .entry (keyOf (c .operation))
+  pub stored : (g s : ℕ) → CompletedIn v g s → n .stored s ≡ v .stored s
+  pub left : (g s : ℕ) → CompletedIn v g s → left (n .history .done) g s ≡ left (v .history .done) g s
 
--- what it keeps for another writer u, whose record is x
+-- what it keeps for a writer u, whose record is x, that does not move
 pub record OtherKept (v n : View) (u : ℕ) (x : Writer) : Type 0 where
   pub pending : n .history .pending u ≡ v .history .pending u
   pub uncompleted : 0 < x .phase → n .completed (x .ts) ≡ v .completed (x .ts)
-  pub cell : 0 < x .phase → n .cell (x .group) (x .ts) ≡ v .cell (x .group) (x .ts)
-  pub stored : 0 < x .phase → n .stored (x .ts) ≡ v .stored (x .ts)
+  pub base : x .phase ≡ 3 → CompletedIn v (x .group) (x .base) → n .cell (x .group) (x .base) ≡ v .cell (x .group) (x .base)
+  pub cell : 3 < x .phase → n .cell (x .group) (x .ts) ≡ v .cell (x .group) (x .ts)
+  pub stored : 3 < x .phase → n .stored (x .ts) ≡ v .stored (x .ts)
   pub entry : 4 < x .phase → n .entry (x .key) ≡ v .entry (x .key)
   pub made : Made (v .history .done) x → Made (n .history .done) x
   pub guards : (p : ℕ) → v .lock p ≡ u + 1 → n .lock p ≡ u + 1
@@ -43,7 +43,9 @@ pub record OtherKept (v n : View) (u : ℕ) (x : Writer) : Type 0 where
 -- a move of writer w, whose record becomes x
 pub record Moved (v n : View) (w : ℕ) (x : Writer) : Type 0 where
   pub writer : n .writer ≡ upd (v .writer) w x
+  pub horizon : n .horizon ≡ v .horizon
   pub shared : SharedKept v n
+  pub cell : (g s : ℕ) → CompletedIn v g s → n .cell g s ≡ v .cell g s
   pub others : (u : ℕ) → u ≢ w → OtherKept v n u (v .writer u)
   pub own : WriterFacts n w x
   pub bound : (k : ℕ) → n .entry k ≢ 0 → Bound (n .history) (n .writer) k
@@ -54,21 +56,20 @@ pub record Kept (v n : View) : Type 0 where
   pub shared : SharedKept v n
   pub invariant : Invariant n
 
-pub unchanged : (v n : View) → n .mode ≡ v .mode → v .last ≤ n .last → n .completed ≡ v .completed → n .entry ≡ v .entry → n .cell ≡ v .cell → n .stored ≡ v .stored
-    → SharedKept v n
-unchanged v n mode last completed entry cell stored =
+pub unchanged : (v n : View) → n .mode ≡ v .mode → v .last ≤ n .last → n .completed ≡ v .completed → n .entry ≡ v .entry → n .stored ≡ v .stored
+    → n .history .done ≡ v .history .done → SharedKept v n
+unchanged v n mode last completed entry stored done =
     record {
       mode = mode;
       last = last;
-      completed = λ s g e. rw completed e;
-      newest = λ s g b e h. rw completed h;
-      entry = λ s c e. rw entry;
-      cell = λ s g e. rw cell;
-      stored = λ s g e. rw stored;
+      completed = λ g s e. rw completed e;
+      entry = λ c m. rw entry;
+      stored = λ g s hit. rw stored;
+      left = λ g s hit. rw done;
     }
 
 module _ (v n : View) (k : SharedKept v n) where
-  other-facts : (u : ℕ) (x : Writer) → OtherKept v n u x → WriterFacts v u x → WriterFacts n u x
+  pub other-facts : (u : ℕ) (x : Writer) → OtherKept v n u x → WriterFacts v u x → WriterFacts n u x
   other-facts u x o f =
       record {
         ready = λ e. o .pending ∙ f .ready e;
@@ -86,8 +87,12 @@ module _ (v n : View) (k : SharedKept v n) where
               uncompleted = o .uncompleted p ∙ h .uncompleted;
             };
         based = λ p. record { before = f .based p .before; hit = λ q. k .completed _ _ (f .based p .hit q) };
-        written = λ p i. rw (o .cell (omega arith), k .cell (x .base) (x .group) (f .based (omega arith) .hit)) (f .written p i);
-        stored = λ p. o .stored (omega arith) ∙ f .stored p ∙ sym (o .cell (omega arith));
+        readable =
+            λ p.
+            let hit = f .based (omega arith) .hit in
+            o .base p hit ∙ f .readable p ∙ sym (k .stored (x .group) (x .base) hit);
+        written = λ p. rw (o .stored p, k .left (x .group) (x .base) (f .based (omega arith) .hit)) (f .written p);
+        inTable = λ p. o .cell p ∙ f .inTable p ∙ sym (o .stored p);
         indexed = λ p. o .entry p ∙ f .indexed p;
         made = λ e. o .made (f .made e);
         guards = rw (k .mode) (λ p. o .guards _ (f .guards p));
@@ -96,19 +101,11 @@ module _ (v n : View) (k : SharedKept v n) where
         latest = rw (k .mode) (λ p c s e. f .latest p c s (o .latest p s e));
       }
 
-  pub committed-facts : Invariant v → (s : ℕ) (c : Committed) → committedAt (v .history .done) s ≡ some c
-      → CommittedFacts n s (c .group) (c .operation)
-  committed-facts i s c is =
-      let g = c .group in
-      let e = committed-completed v i s c is in
-      let f = i .committed s c is in
-      record {
-        base = f .base;
-        newest = k .newest s g (f .base) e (f .newest);
-        rows = λ i. rw (k .cell s g (λ p. e), k .cell (f .base) g (f .newest .hit)) (f .rows i);
-        stored = k .stored s g e ∙ f .stored ∙ sym (k .cell s g (λ p. e));
-        indexed = k .entry s c is ∙ f .indexed;
-      }
+  pub committed-kept : (c : Committed) → List·Memᴰ c (v .history .done) → CommittedFacts v c → CommittedFacts n c
+  committed-kept c m f = record { completed = k .completed _ _ (f .completed); indexed = k .entry c m ∙ f .indexed }
+
+  pub rows-kept : Invariant v → (g s : ℕ) → CompletedIn v g s → n .stored s ≡ left (n .history .done) g s
+  rows-kept i g s hit = k .stored g s hit ∙ i .rows g s hit ∙ sym (k .left g s hit)
 
 module _ (v n : View) (w : ℕ) (x : Writer) (i : Invariant v) (m : Moved v n w x) where
   pub writer-facts : (u : ℕ) → WriterFacts n u (n .writer u)
@@ -125,6 +122,14 @@ module _ (v n : View) (w : ℕ) (x : Writer) (i : Invariant v) (m : Moved v n w 
       (λ a ne.
       upd-ind f w x (λ b y. 0 < f a .phase → 0 < y .phase → f a .ts ≡ y .ts → a ≡ b) (λ p q e. absurd (m .unique a ne p q e)) (λ b nb. i .unique a b)))
 
+  -- a slice that was completed before, and that no clean has dropped
+  pub slice-kept : (g s : ℕ) → CompletedIn v g s → KeptAt (n .completed) (n .horizon) s → n .cell g s ≡ n .stored s
+  slice-kept g s hit kept =
+      m .cell g s hit
+      ∙ i .kept g s hit
+      (λ p f r e q low. kept p f r (m .shared .completed f s e) (m .shared .completed f r q) (omega (arith, m .horizon)))
+      ∙ sym (m .shared .stored g s hit)
+
   -- a move that commits nothing
   pub uncommitted : n .history .last ≡ n .last → n .history .done ≡ v .history .done → n .completed ≡ v .completed → Kept v n
   uncommitted last done completed =
@@ -133,11 +138,10 @@ module _ (v n : View) (w : ℕ) (x : Writer) (i : Invariant v) (m : Moved v n w 
         invariant =
             record {
               last = last;
-              distinct = rw done (i .distinct);
-              linked = rw (done, completed) (i .linked);
               above = λ s p. rw completed (i .above s (omega (arith, m .shared .last)));
-              empty = λ g k. ap (λ (c : ℕ → Option ℕ). c k) (m .shared .cell 0 g (λ p. absurd (omega arith))) ∙ i .empty g k;
-              committed = λ s c e. committed-facts v n (m .shared) i s c (rw done at e);
+              committed = λ c q. let old = rw done at q in committed-kept v n (m .shared) c old (i .committed c old);
+              rows = λ g s hit. rows-kept v n (m .shared) i g s (λ p. rw completed at (hit p));
+              kept = λ g s hit. slice-kept g s (λ p. rw completed at (hit p));
               bound = m .bound;
               writer = writer-facts;
               unique = timestamps-unique;

@@ -67,7 +67,8 @@ ruling-lengths mode x w s (hasFound p q) h = h
 ruling-lengths mode x w s (hasProposed p q) h = h
 ruling-lengths mode x w s (hasRead p free q) h = with-locks (with-instant h _ _) (locked h mode x _)
 ruling-lengths mode x w s (hasWritten p) h =
-    with-rows h (sliced-length false (s .present) x (x .put) ∙ h .present) (sliced-length 0 (s .values) x (x .value) ∙ h .values)
+    with-rows h (sliced-length false (s .present) (x .group) (x .base) (x .ts) (x .key) (x .put) ∙ h .present)
+    (sliced-length 0 (s .values) (x .group) (x .base) (x .ts) (x .key) (x .value) ∙ h .values)
 ruling-lengths mode x w s (hasEntered made p e) h = with-locks (with-index h (entered h _ _)) (locked h mode x _)
 ruling-lengths mode x w s (hasChecked p q) h = h
 ruling-lengths mode x w s (hasCommitted i p q) h = closed-lengths committed x w (with-instant h _ _)

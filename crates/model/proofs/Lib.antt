@@ -2,7 +2,7 @@ pub mod Modes
 pub mod Locks
 pub mod Newest
 pub mod CompletedInstants
-pub mod CommittedAt
+pub mod NewestCommitted
 pub mod Outcomes
 pub mod Ranged
 pub mod Actions
@@ -19,10 +19,14 @@ pub mod CommitKept
 pub mod InvariantKept
 pub mod Slices
 pub mod Lengths
+pub mod Sweeping
+pub mod Cleaning
 pub mod StepMoves
+pub mod EventChanges
 pub mod Listing
 pub mod Isolation
 pub mod Corollaries
+pub mod StepLocks
 pub mod Exclusion
 pub mod Erased
 pub mod EnumNumbers

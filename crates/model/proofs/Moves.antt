@@ -1,5 +1,6 @@
--- What the theorems see of a table and its history, with functions in place of lists, and what a step can make of it: a `Move`.
-use Prim.Native.Nat.{ℕ, _+_, _≤_}
+-- What the theorems see of a table and its history, with functions in place of lists, and what an event can make of it: a `Change`, which is the
+-- `Move` of a writer or a clean.
+use Prim.Native.Nat.{ℕ, _+_, _≤_, _<_}
 use mathlib.Core.Path.{_≡_}
 use mathlib.Core.Logic.{_≢_}
 use mathlib.Core.Bool.{Bool, true, false, cond}
@@ -12,13 +13,13 @@ use Rattle.model.specs.History.{Pending, History, startRecorded, commitR
 use Rattle.model.specs.declared.Mode.{Mode}
 use Rattle.model.specs.declared.Writer.{Writer}
 use Rattle.model.specs.declared.Operation.{Operation}
-use Rattle.model.specs.declared.Operation.the-variants.{Put, Remove}
 use Rattle.model.specs.declared.Action.the-variants.{Start}
 use Rattle.model.proofs.Newest.{Newest}
 use Rattle.model.proofs.Locks.{takenIf}
 
 pub record View : Type 0 where
   pub mode : Mode
+  pub horizon : ℕ
   pub last : ℕ
   pub lock : ℕ → ℕ  -- at each place: 0, or its holder + 1
   pub entry : ℕ → ℕ  -- of each key: 0, or its file group + 1
@@ -28,11 +29,7 @@ pub record View : Type 0 where
   pub history : History
   pub stored : ℕ → ℕ → Option ℕ  -- the slices that the write steps stored, by timestamp
 
--- what an operation, and a writer with its operation, leave at the key
-abbrev pub leftBy : Operation → Option ℕ
-leftBy (Put k v g) = some v
-leftBy (Remove k) = none
-
+-- what a writer with its operation leaves at the key
 abbrev pub leaves : Writer → Option ℕ
 leaves x = cond (x .put) (some (x .value)) none
 
@@ -48,6 +45,7 @@ abbrev pub afterStart : View → ℕ → Operation → View
 afterStart v w op =
     record {
       mode = v .mode;
+      horizon = v .horizon;
       last = v .last + 1;
       lock = v .lock;
       entry = v .entry;
@@ -63,6 +61,7 @@ abbrev pub afterPhase : View → ℕ → Writer → (ℕ → ℕ) → (ℕ → �
 afterPhase v w x lock entry cell stored =
     record {
       mode = v .mode;
+      horizon = v .horizon;
       last = v .last;
       lock = lock;
       entry = entry;
@@ -78,6 +77,7 @@ abbrev pub afterEnd : View → ℕ → View
 afterEnd v w =
     record {
       mode = v .mode;
+      horizon = v .horizon;
       last = v .last;
       lock = λ p. released (v .lock p) w;
       entry = cond (v .writer w .made) (upd (v .entry) (v .writer w .key) 0) (v .entry);
@@ -93,6 +93,7 @@ abbrev pub afterCommit : View → ℕ → Pending → View
 afterCommit v w p =
     record {
       mode = v .mode;
+      horizon = v .horizon;
       last = v .last;
       lock = λ q. released (v .lock q) w;
       entry = v .entry;
@@ -100,6 +101,22 @@ afterCommit v w p =
       cell = v .cell;
       writer = upd (v .writer) w ready;
       history = commitRecorded (v .history) w (λ n. v .writer w .group) (some p);
+      stored = v .stored;
+    }
+
+-- a clean at the timestamp c, after which the slices are those of `cell`
+abbrev pub afterClean : View → ℕ → (ℕ → ℕ → ℕ → Option ℕ) → View
+afterClean v c cell =
+    record {
+      mode = v .mode;
+      horizon = c;
+      last = v .last;
+      lock = v .lock;
+      entry = v .entry;
+      completed = v .completed;
+      cell = cell;
+      writer = v .writer;
+      history = v .history;
       stored = v .stored;
     }
 
@@ -138,3 +155,18 @@ pub data Move (v : View) (w : ℕ) (n : View) : Type 0 where
       → NextPhase v w (v .writer w) x l e c d → n ≡ afterPhase v w x l e c d → Move v w n
   ends : n ≡ afterEnd v w → Move v w n
   commits : (p : Pending) → v .writer w .phase ≡ 6 → v .history .pending w ≡ some p → n ≡ afterCommit v w p → Move v w n
+
+-- a clean at c keeps the slice of timestamp s: it is not completed, or no newer one of its file group is completed at or below c
+abbrev pub KeptAt : (ℕ → Option ℕ) → ℕ → ℕ → Type 0
+KeptAt completed c s = 0 < s → (g r : ℕ) → completed s ≡ some g → completed r ≡ some g → r ≤ c → r ≤ s
+
+-- a clean at c, after which the slices are those of `cell`: such slices are as before, and so is the base of a writer that is about to copy it
+pub record Cleaned (v : View) (c : ℕ) (cell : ℕ → ℕ → ℕ → Option ℕ) : Type 0 where
+  pub rises : v .horizon ≤ c
+  pub keeps : (s : ℕ) → KeptAt (v .completed) c s → (g : ℕ) → cell g s ≡ v .cell g s
+  pub bases : (w : ℕ) → v .writer w .phase ≡ 3 → (g : ℕ) → cell g (v .writer w .base) ≡ v .cell g (v .writer w .base)
+
+-- what an event makes of a view: a step of writer w, or a clean
+pub data Change (v n : View) : Type 0 where
+  moves : (w : ℕ) → Move v w n → Change v n
+  cleans : (c : ℕ) (cell : ℕ → ℕ → ℕ → Option ℕ) → Cleaned v c cell → n ≡ afterClean v c cell → Change v n

@@ -11,7 +11,8 @@ use Rattle.model.specs.declared.Writer.{Writer}
 use Rattle.model.specs.declared.Operation.{Operation}
 use Rattle.model.specs.declared.Operation.the-variants.{Put, Remove}
 use Rattle.model.proofs.Modes.{lock-phase}
-use Rattle.model.proofs.Moves.{View, leftBy, leaves}
+use Rattle.model.proofs.NewestCommitted.{leftBy}
+use Rattle.model.proofs.Moves.{View, leaves}
 use Rattle.model.proofs.Invariant.{InProgress, WriterFacts}
 
 -- a writer that has not read: the facts of the later phases are void
@@ -24,8 +25,9 @@ unread v w x early ready inProgress unmade unlocked =
       ready = ready;
       inProgress = inProgress;
       based = λ p. absurd (omega arith);
+      readable = λ p. absurd (omega arith);
       written = λ p. absurd (omega arith);
-      stored = λ p. absurd (omega arith);
+      inTable = λ p. absurd (omega arith);
       indexed = λ p. absurd (omega arith);
       made = λ e. absurd (unmade e);
       guards = λ p. absurd (omega arith);

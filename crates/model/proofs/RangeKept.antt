@@ -2,8 +2,9 @@
 --     step-in-range        a step leaves a state in range in range
 --     answer-in-range      a step on a state in range is not answered 17
 --     fresh-in-range       a fresh state is in range
+--     event-in-range       an event leaves a state in range in range
 --     reached-in-range     a state reached from a fresh one is in range
---     never-out-of-range   so no step there is answered 17
+--     never-out-of-range   so no step and no clean there is answered 17
 use Prim.Native.Nat.{ℕ, _<_, _≤_}
 use native.Mathlib.Nat.{le-trans}
 use native.Mathlib.Omega.{arith}
@@ -17,7 +18,8 @@ use Rattle.common.specs.Counting.{eachBelow}
 use Rattle.model.specs.State.{State, ready, fresh}
 use Rattle.model.specs.Range.{writersInRange, locksInRange, indexInRange, instantsInRange, noneAbove, inRange}
 use Rattle.model.specs.Rules.{Outcome, act, Answered, updated, stepTested, step}
-use Rattle.model.specs.Isolation.{next, after}
+use Rattle.model.specs.Cleaning.{clean}
+use Rattle.model.specs.Isolation.{Event, takesStep, cleansAt, Execution, next, after}
 use Rattle.model.specs.declared.Mode.{Mode}
 use Rattle.model.specs.declared.Writer.{Writer}
 use Rattle.model.specs.declared.Step.{Step}
@@ -25,6 +27,7 @@ use Rattle.common.proofs.Cases.{cond-iff, facts, set-ind}
 use Rattle.model.proofs.Ranged.{WriterRanged, Ranged, ranged, in-range}
 use Rattle.model.proofs.Executed.{executed-keeps}
 use Rattle.model.proofs.Actions.{OutcomeRanged, act-sound}
+use Rattle.model.proofs.Cleaning.{clean-in-range}
 
 later-ranged : {last n : ℕ} {x : Writer} → last ≤ n → WriterRanged last x → WriterRanged n x
 later-ranged h g =
@@ -33,6 +36,7 @@ later-ranged h g =
 updated-ranged : (st : State) (w : ℕ) (o : Outcome) → Ranged st → OutcomeRanged (st .shared .last) o → Ranged (updated st w o .state)
 updated-ranged st w o r k =
     record {
+      horizon = le-trans (r .horizon) (k .grows);
       shared = k .shared;
       writer =
           set-ind (λ v y. v < writers → WriterRanged (o .shared .last) y) (st .writers) w (o .writer) ready
@@ -58,9 +62,16 @@ pub fresh-in-range : (mode : Mode) → inRange (fresh mode) ≡ true
 unfolding inRange writersInRange locksInRange indexInRange instantsInRange noneAbove eachBelow fresh
 fresh-in-range mode = refl
 
-pub reached-in-range : (mode : Mode) (ss : List Step) → inRange (after mode ss .state) ≡ true
+pub event-in-range : (u : Execution) (e : Event) → inRange (u .state) ≡ true → inRange (next u e .state) ≡ true
 unfolding next
-reached-in-range mode ss = executed-keeps (λ u. inRange (u .state) ≡ true) (λ u s e. step-in-range (u .state) s e) _ ss (fresh-in-range mode)
+event-in-range u (takesStep s) fine = step-in-range (u .state) s fine
+event-in-range u (cleansAt c) fine = clean-in-range (u .state) c fine .0
 
-pub never-out-of-range : (mode : Mode) (ss : List Step) (s : Step) → step (after mode ss .state) s .answer ≢ outOfRange
-never-out-of-range mode ss s = answer-in-range (after mode ss .state) s (reached-in-range mode ss)
+pub reached-in-range : (mode : Mode) (es : List Event) → inRange (after mode es .state) ≡ true
+reached-in-range mode es = executed-keeps (λ u. inRange (u .state) ≡ true) event-in-range _ es (fresh-in-range mode)
+
+pub never-out-of-range : (mode : Mode) (es : List Event)
+    → ((s : Step) → step (after mode es .state) s .answer ≢ outOfRange) × ((c : ℕ) → clean (after mode es .state) c .answer ≢ outOfRange)
+never-out-of-range mode es =
+    let fine = reached-in-range mode es in
+    (λ s. answer-in-range (after mode es .state) s fine, λ c. clean-in-range (after mode es .state) c fine .1)

@@ -34,6 +34,7 @@ pub record SharedRanged (s : Shared) : Type 0 where
   pub instant : (i : ℕ) → i < timestamps → InstantRanged (s .last) i (getD (s .timeline) i 0)
 
 pub record Ranged (st : State) : Type 0 where
+  pub horizon : st .horizon ≤ st .shared .last
   pub shared : SharedRanged (st .shared)
   pub writer : (w : ℕ) → w < writers → WriterRanged (st .shared .last) (getD (st .writers) w ready)
 
@@ -50,8 +51,9 @@ module _ (st : State) where
   pub ranged : inRange st ≡ true → Ranged st
   unfolding inRange writersInRange locksInRange indexInRange instantsInRange noneAbove
   ranged e =
-      let (last, (lock, (writer, (entry, (coded, above))))) = simp (facts, below-iff) at e in
+      let (last, (horizon, (lock, (writer, (entry, (coded, above)))))) = simp (facts, below-iff) at e in
       record {
+        horizon = horizon;
         shared =
             record {
               last = last;
@@ -69,10 +71,13 @@ module _ (st : State) where
       simp (facts, below-iff) (
         s .last,
         (
-          s .lock,
+          r .horizon,
           (
-            λ w l. simp facts at (writer-in-range _ _ (r .writer w l)),
-            (s .entry, (λ i l. s .instant i l .coded, λ i l a. s .instant i l .above (omega arith))),
+            s .lock,
+            (
+              λ w l. simp facts at (writer-in-range _ _ (r .writer w l)),
+              (s .entry, (λ i l. s .instant i l .coded, λ i l a. s .instant i l .above (omega arith))),
+            ),
           ),
         ),
       )

@@ -1,4 +1,5 @@
--- A step of the table, with the history recorded by it, is a move of the view (`step-moves`), and so it keeps the invariant (`step-consistent`).
+-- What the theorems see of an execution (`viewOf`), and when it is `Consistent`. A step of the table, with the history recorded by it, is a move of the
+-- view: `step-moves`.
 use Prim.Native.Nat.{ℕ, suc, _+_, _≤_, _<_}
 use mathlib.Core.Path.{_≡_, refl, sym, ap, _∙_, fun-ext}
 use mathlib.Core.List.{List}
@@ -17,7 +18,7 @@ use Rattle.model.specs.Range.{inRange}
 use Rattle.model.specs.Rules.{begun, moved, takesLock, locking, freed, withdrawn, Verdict, carried, act, Answered, updated, stepTested, step}
 use Rattle.model.specs.Snapshot.{instantOf}
 use Rattle.model.specs.History.{Pending, History, startRecorded, commitRecorded, endRecorded, recorded}
-use Rattle.model.specs.Isolation.{Execution, isWrite, sliceOf, storedBy, answeredBy, next}
+use Rattle.model.specs.Isolation.{groupGiven, takesStep, Execution, isWrite, sliceOf, storedBy, answeredBy, next}
 use Rattle.model.specs.declared.Writer.{Writer}
 use Rattle.model.specs.declared.Action.{Action}
 use Rattle.model.specs.declared.Step.{Step}
@@ -26,22 +27,22 @@ use Rattle.common.proofs.Functions.{upd-same, upd-id, getD-upd}
 use Rattle.model.proofs.Modes.{guard-fits}
 use Rattle.model.proofs.Locks.{freed-at}
 use Rattle.model.proofs.CompletedInstants.{groupCompleted, completedAt, completed-group, requested-group, inflight-group}
-use Rattle.model.proofs.CompletedInstants.{instant-next, instant-set, completed-upd, newest-of, group-given}
+use Rattle.model.proofs.CompletedInstants.{instant-next, instant-set, completed-upd, newest-of, completed-given}
 use Rattle.model.proofs.Ranged.{WriterRanged, ranged}
 use Rattle.model.proofs.RangeKept.{step-in-range}
 use Rattle.model.proofs.Outcomes.{Ruling, isRefused, isEnded, rules}
 use Rattle.model.proofs.Outcomes.{hasStarted, hasFound, hasProposed, hasRead, hasWritten, hasEntered, hasChecked, hasCommitted}
 use Rattle.model.proofs.Slices.{stored-own, cell-sliced}
-use Rattle.model.proofs.Lengths.{StateLengths, step-lengths}
+use Rattle.model.proofs.Lengths.{StateLengths}
 use Rattle.model.proofs.Moves.{View, guardOf, locksTaken, afterStart, afterPhase, afterEnd, afterCommit, looksUp, reads, writes, indexes, checks}
 use Rattle.model.proofs.Moves.{Move, stays, starts, continues, ends, commits}
 use Rattle.model.proofs.Invariant.{Invariant}
-use Rattle.model.proofs.InvariantKept.{move-keeps}
 
 abbrev pub viewOf : Execution → View
 viewOf u =
     record {
       mode = u .state .mode;
+      horizon = u .state .horizon;
       last = u .state .shared .last;
       lock = λ p. getD (u .state .shared .locks) p 0;
       entry = λ k. getD (u .state .shared .index) k 0;
@@ -58,10 +59,11 @@ pub record Consistent (u : Execution) : Type 0 where
   pub ranged : inRange (u .state) ≡ true
   pub invariant : Invariant (viewOf u)
 
-view-path : (v n : View) → v .mode ≡ n .mode → v .last ≡ n .last → v .lock ≡ n .lock → v .entry ≡ n .entry → v .completed ≡ n .completed → v .cell ≡ n .cell
-    → v .writer ≡ n .writer → v .history ≡ n .history → v .stored ≡ n .stored → v ≡ n
-view-path v n m p q r s t x h d =
-    λ i. record { mode = m i; last = p i; lock = q i; entry = r i; completed = s i; cell = t i; writer = x i; history = h i; stored = d i }
+view-path : (v n : View) → v .mode ≡ n .mode → v .horizon ≡ n .horizon → v .last ≡ n .last → v .lock ≡ n .lock → v .entry ≡ n .entry
+    → v .completed ≡ n .completed → v .cell ≡ n .cell → v .writer ≡ n .writer → v .history ≡ n .history → v .stored ≡ n .stored → v ≡ n
+view-path v n m z p q r s t x h d =
+    λ i.
+    record { mode = m i; horizon = z i; last = p i; lock = q i; entry = r i; completed = s i; cell = t i; writer = x i; history = h i; stored = d i }
 
 -- the history after an answer
 recorded-refused : (h : History) (s : Step) (n : ℕ) (g : ℕ → ℕ) → aborted < n → recorded h s n g ≡ h
@@ -148,29 +150,29 @@ module _ (u : Execution) (h : Consistent u) (w : ℕ) (there : w < writers) wher
   unfolding startRecorded
   ruling-moves (isRefused a n p) fine =
       stays
-      (view-path _ v refl refl refl refl refl refl
+      (view-path _ v refl refl refl refl refl refl refl
       (ap {B = ℕ → Writer} (λ (l : List Writer) (i : ℕ). getD l i ready) (set-getD (u .state .writers) w ready)) (recorded-refused _ _ n _ (p .above))
       (stored-untaken _ _ _ _ (omega (arith, p .above))))
   ruling-moves (isEnded a n p) fine =
       ends
-      (view-path _ (afterEnd v w) refl refl freed-path (withdrawn-path n (p .above)) refl refl (writer-path ready)
+      (view-path _ (afterEnd v w) refl refl refl freed-path (withdrawn-path n (p .above)) refl refl (writer-path ready)
       (recorded-ended _ _ n _ (p .above) (p .upTo)) (stored-untaken _ _ _ _ (omega (arith, p .above))))
   ruling-moves (hasStarted op k g unerased p l) fine =
       starts op unerased p
-      (view-path _ (afterStart v w op) refl refl refl refl
+      (view-path _ (afterStart v w op) refl refl refl refl refl
       (completed-upd (sh .timeline) _ (suc (sh .last)) requested
       (instant-next (sh .timeline) (sh .last) requested (omega (arith, h .lengths .shared .timeline)))
       ∙ upd-id (v .completed) (suc (sh .last)) _ (h .invariant .above (suc (sh .last)) (omega arith) ∙ sym requested-group))
       refl (writer-path (begun op (sh .last + 1))) (recorded-taken _ _ _) (stored-unwritten _ _ _ _ refl))
   ruling-moves (hasFound p ne) fine =
       continues (looksUp _ p)
-      (view-path _ (afterPhase v w _ _ _ _ _) refl refl refl refl refl refl (writer-path _) (recorded-taken _ _ _) (stored-unwritten _ _ _ _ refl))
+      (view-path _ (afterPhase v w _ _ _ _ _) refl refl refl refl refl refl refl (writer-path _) (recorded-taken _ _ _) (stored-unwritten _ _ _ _ refl))
   ruling-moves (hasProposed p put) fine =
       continues (looksUp _ p)
-      (view-path _ (afterPhase v w _ _ _ _ _) refl refl refl refl refl refl (writer-path _) (recorded-taken _ _ _) (stored-unwritten _ _ _ _ refl))
+      (view-path _ (afterPhase v w _ _ _ _ _) refl refl refl refl refl refl refl (writer-path _) (recorded-taken _ _ _) (stored-unwritten _ _ _ _ refl))
   ruling-moves (hasRead p free q) fine =
       continues (reads _ p free (newest-of (sh .timeline) (x .group) (sh .last)) q)
-      (view-path _ (afterPhase v w _ _ _ _ _) refl refl locking-path refl
+      (view-path _ (afterPhase v w _ _ _ _ _) refl refl refl locking-path refl
       (completed-upd (sh .timeline) _ (x .ts) (inflight (x .group))
       (instant-set (sh .timeline) (x .ts) (inflight (x .group)) (fits .issued (omega arith)) in-timeline)
       ∙ upd-id (v .completed) (x .ts) _ (h .invariant .writer w .inProgress (omega arith) .uncompleted ∙ sym (inflight-group (x .group) (fits .group))))
@@ -181,32 +183,35 @@ module _ (u : Execution) (h : Consistent u) (w : ℕ) (there : w < writers) wher
       cell-sliced (sh .present) (sh .values) x (fits .issued (omega arith)) (fits .group) (fits .key) (omega (arith, ts-fits, h .lengths .shared .present))
       (omega (arith, ts-fits, h .lengths .shared .values)) in
       continues (writes p)
-      (view-path _ (afterPhase v w _ _ _ _ _) refl refl refl refl refl slices (writer-path y) (recorded-taken _ _ _)
+      (view-path _ (afterPhase v w _ _ _ _ _) refl refl refl refl refl refl slices (writer-path y) (recorded-taken _ _ _)
       (stored-written _ _ _ _ refl refl
       ∙ rw (ap (λ (f : ℕ → Writer). f w) (writer-path y), upd-same (v .writer) w y, slices) (ap (upd (v .stored) (x .ts)) (stored-own (v .cell) x))))
   ruling-moves (hasEntered made p e) fine =
       continues (indexes made p (e .free) (e .new) (e .found))
-      (view-path _ (afterPhase v w _ _ _ _ _) refl refl locking-path (entry-path _) refl refl (writer-path _) (recorded-taken _ _ _) (stored-unwritten _ _ _ _ refl))
+      (view-path _ (afterPhase v w _ _ _ _ _) refl refl refl locking-path (entry-path _) refl refl (writer-path _) (recorded-taken _ _ _)
+      (stored-unwritten _ _ _ _ refl))
   ruling-moves (hasChecked p q) fine =
       continues (checks _ p (newest-of (sh .timeline) (x .group) (sh .last)) q)
-      (view-path _ (afterPhase v w _ _ _ _ _) refl refl refl refl refl refl (writer-path _) (recorded-taken _ _ _) (stored-unwritten _ _ _ _ refl))
+      (view-path _ (afterPhase v w _ _ _ _ _) refl refl refl refl refl refl refl (writer-path _) (recorded-taken _ _ _) (stored-unwritten _ _ _ _ refl))
   ruling-moves (hasCommitted i p is) fine =
       let b = h .invariant .writer w .inProgress (omega arith) in
       let done = instant-set (sh .timeline) (x .ts) i (fits .issued (omega arith)) in-timeline in
-      let given = group-given _ (b .pending .ts) (x .group) fine (rw (b .ts, done) (upd-same (instantOf (sh .timeline)) (x .ts) i ∙ is)) in
+      let given = completed-given _ (b .pending .ts) (x .group) fine (rw (b .ts, done) (upd-same (instantOf (sh .timeline)) (x .ts) i ∙ is)) in
       commits (b .pending) p (b .is)
-      (view-path _ (afterCommit v w (b .pending)) refl refl freed-path refl
+      (view-path _ (afterCommit v w (b .pending)) refl refl refl freed-path refl
       (completed-upd (sh .timeline) _ (x .ts) i done ∙ ap (upd (v .completed) (x .ts)) (ap groupCompleted is ∙ completed-group (x .group)))
       refl (writer-path ready)
-      (recorded-committed _ _ _ ∙ ap (commitRecorded (u .history) w _) (b .is) ∙ commit-group (u .history) w (b .pending) _ (λ n. x .group) given)
+      (recorded-committed _ _ _
+      ∙ ap (commitRecorded (u .history) w _) (b .is)
+      ∙ commit-group (u .history) w (b .pending) _ (λ n. x .group) (ap groupGiven given))
       (stored-unwritten _ _ _ _ refl))
 
-pub step-moves : (u : Execution) (s : Step) → Consistent u → Move (viewOf u) (s .writer) (viewOf (next u s))
+pub step-moves : (u : Execution) (s : Step) → Consistent u → Move (viewOf u) (s .writer) (viewOf (next u (takesStep s)))
 unfolding next step stepTested act recorded storedBy
-step-moves u s h = moves (step-in-range (u .state) s (h .ranged))
+step-moves u s h = by-rule (step-in-range (u .state) s (h .ranged))
   where
-    moves : inRange (step (u .state) s .state) ≡ true → Move (viewOf u) (s .writer) (viewOf (answeredBy u s (step (u .state) s)))
-    moves =
+    by-rule : inRange (step (u .state) s .state) ≡ true → Move (viewOf u) (s .writer) (viewOf (answeredBy u s (step (u .state) s)))
+    by-rule =
         simp (cond-iff (λ (r : Answered). inRange (r .state) ≡ true → Move (viewOf u) (s .writer) (viewOf (answeredBy u s r))), facts) (
           λ _ _. stays refl,
           λ _. (
@@ -214,12 +219,3 @@ step-moves u s h = moves (step-in-range (u .state) s (h .ranged))
             λ there. ruling-moves u h (s .writer) there (rules (u .state .mode) (viewOf u .writer (s .writer)) (s .writer) (u .state .shared) (s .action)),
           ),
         )
-
-pub step-consistent : (u : Execution) (s : Step) → Consistent u → Consistent (next u s)
-unfolding next
-step-consistent u s h =
-    record {
-      lengths = step-lengths (u .state) s (h .lengths);
-      ranged = step-in-range (u .state) s (h .ranged);
-      invariant = move-keeps (viewOf u) (viewOf (next u s)) (s .writer) (h .invariant) (step-moves u s h) .invariant;
-    }

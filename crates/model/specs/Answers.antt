@@ -2,7 +2,7 @@
 -- 1 to 6 end an operation, from `committed` to `aborted`; what is above `aborted` is a refusal and changes nothing.
 use Prim.Native.Nat.{ℕ}
 
--- 0: the step is taken and the operation goes on; or a read is not refused
+-- 0: the step is taken and the operation goes on; or a read or a clean is not refused
 abbrev pub taken : ℕ
 taken = 0
 
@@ -69,3 +69,15 @@ groupLocked = 19
 -- the rows of a scan do not fit
 abbrev pub noRoom : ℕ
 noRoom = 31
+
+-- the timestamp is below the horizon, at a point read or a scan (document 02, Q-13)
+abbrev pub belowHorizon : ℕ
+belowHorizon = 32
+
+-- a writer is about to copy a base that would be dropped, at a clean (document 02, Q-13)
+abbrev pub baseNeeded : ℕ
+baseNeeded = 33
+
+-- there is no such horizon, at a clean: below the one that the table has, or above the last timestamp issued (document 02, Q-13)
+abbrev pub noHorizon : ℕ
+noHorizon = 34

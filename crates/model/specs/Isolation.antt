@@ -1,7 +1,8 @@
--- Demand 3 of document 00, over the history (document 01, The book behind demand 3): the statement. The theorem is `isolated` in proofs/Isolation.antt.
+-- Demand 3 of document 00, over the history (document 01, The book behind demand 3), as document 02, Q-13 has it: the statement. The theorem is
+-- `isolated` in proofs/Isolation.antt.
 use Prim.Native.Nat.{ℕ, _*_, _≤_, _<_}
 use mathlib.Core.Path.{_≡_}
-use mathlib.Core.List.{List, _++_, foldl, List·Memᴰ}
+use mathlib.Core.List.{List, _++_, map, foldl, List·Memᴰ}
 use mathlib.Core.Bool.{Bool, true, false, cond, _&&_}
 use mathlib.Core.Option.{Option, none, some}
 use lib.ListN.{length}
@@ -11,6 +12,7 @@ use Rattle.common.specs.Counting.{upd}
 use Rattle.model.specs.State.{Shared, State, fresh, cell}
 use Rattle.model.specs.Rules.{Answered, writerOf, step}
 use Rattle.model.specs.Snapshot.{scan, listed, instantAt}
+use Rattle.model.specs.Cleaning.{clean}
 use Rattle.model.specs.History.{Pending, Committed, History, empty, recorded, listing}
 use Rattle.model.specs.declared.Action.{Action}
 use Rattle.model.specs.declared.Action.the-variants.{Start, LookUp, Read, Write, Index, Check, Commit, Abort}
@@ -27,6 +29,15 @@ groupGiven None = 0
 groupGiven Requested = 0
 groupGiven (Inflight g) = g
 groupGiven (Completed g) = g
+
+-- what happens to a table: a step of a writer, or a clean at a timestamp
+pub data Event : Type 0 where
+  takesStep : Step → Event
+  cleansAt : ℕ → Event
+
+-- the events of a list of steps, with no clean among them
+abbrev pub eventsOf : List Step → List Event
+eventsOf ss = map takesStep ss
 
 -- a table, its history, and what the write steps stored: by timestamp, the value of each key that has a row in the slice stored under it
 pub record Execution : Type 0 where
@@ -62,36 +73,45 @@ answeredBy u s r =
       stored = storedBy (u .stored) s r (writerOf (r .state) (s .writer));
     }
 
--- one step: the table's answer, recorded
-unfoldable pub next : Execution → Step → Execution
-next u s = answeredBy u s (step (u .state) s)
+-- one event: the table's answer, recorded; a clean, taken or refused, changes neither the history nor what was stored (document 02, Q-13)
+unfoldable pub next : Execution → Event → Execution
+next u (takesStep s) = answeredBy u s (step (u .state) s)
+next u (cleansAt c) = record { state = clean (u .state) c .state; history = u .history; stored = u .stored }
 
--- a list of steps, each on the table that the one before it returned (document 00, demand 3)
-unfoldable pub executed : Execution → List Step → Execution
-executed u ss = foldl next u ss
+-- a list of events, each on the table that the one before it returned (document 00, demand 3)
+unfoldable pub executed : Execution → List Event → Execution
+executed u es = foldl next u es
 
 -- a fresh table of a mode, with no history and no slice stored
 abbrev pub beginning : Mode → Execution
 beginning mode = record { state = fresh mode; history = empty; stored = λ n k. none }
 
--- the table after a list of steps from a fresh one of a mode, with its history and the stored slices
-abbrev pub after : Mode → List Step → Execution
-after mode ss = executed (beginning mode) ss
+-- the table after a list of events from a fresh one of a mode, with its history and the stored slices
+abbrev pub after : Mode → List Event → Execution
+after mode es = executed (beginning mode) es
 
--- the slice that the write step of a committed operation stored (document 01, The book behind demand 3): the value of each key that has a row in it
+-- its horizon
+abbrev pub horizonAfter : Mode → List Event → ℕ
+horizonAfter mode es = after mode es .state .horizon
+
+-- the slice that the write step of a committed operation stored (document 01, The book behind demand 3): the value of each key that has a row in it,
+-- dropped by a clean or not
 abbrev pub committedSlice : Execution → Committed → ℕ → Option ℕ
 committedSlice u c = u .stored (c .ts)
 
--- demand 3, after a list of steps, for each mode (document 02, Q-9)
-pub record Isolated (mode : Mode) (ss : List Step) : Type 0 where
-  -- a scan at any timestamp, with room for the history's listing, is not refused: it counts and stores these rows and leaves what stands behind them
-  pub lists : (t : ℕ) (buffer : List ℕ) → 3 * length (listing (after mode ss .history) t) ≤ length buffer
-      → scan (after mode ss .state) t buffer ≡ listed (listing (after mode ss .history) t) buffer
+-- demand 3, after a list of events, for each mode (document 02, Q-9). Where the events are those of steps the horizon is 0 (`steps-horizon` in
+-- proofs/Corollaries.antt), so that every timestamp is at or above it and the statement is that of document 00
+pub record Isolated (mode : Mode) (es : List Event) : Type 0 where
+  -- a scan at any timestamp at or above the horizon, with room for the history's listing, is not refused: it counts and stores these rows and leaves
+  -- what stands behind them
+  pub lists : (t : ℕ) (buffer : List ℕ) → horizonAfter mode es ≤ t → 3 * length (listing (after mode es .history) t) ≤ length buffer
+      → scan (after mode es .state) t buffer ≡ listed (listing (after mode es .history) t) buffer
   -- two committed slices that have a row of one key are of one file group
-  pub oneGroup : (c d : Committed) → List·Memᴰ c (after mode ss .history .done) → List·Memᴰ d (after mode ss .history .done) → (k u v : ℕ)
-      → committedSlice (after mode ss) c k ≡ some u → committedSlice (after mode ss) d k ≡ some v → c .group ≡ d .group
-  -- if t is issued, and every operation in progress has a later timestamp, the scan at t gives this listing whatever steps follow
-  pub stays : (t : ℕ) → 1 ≤ t → t ≤ after mode ss .history .last
-      → ((w : ℕ) (p : Pending) → after mode ss .history .pending w ≡ some p → t < p .ts)
-      → (more : List Step) (buffer : List ℕ) → 3 * length (listing (after mode ss .history) t) ≤ length buffer
-      → scan (after mode (ss ++ more) .state) t buffer ≡ listed (listing (after mode ss .history) t) buffer
+  pub oneGroup : (c d : Committed) → List·Memᴰ c (after mode es .history .done) → List·Memᴰ d (after mode es .history .done) → (k u v : ℕ)
+      → committedSlice (after mode es) c k ≡ some u → committedSlice (after mode es) d k ≡ some v → c .group ≡ d .group
+  -- if t is issued, and every operation in progress has a later timestamp, the scan at t gives this listing whatever events follow, until a clean
+  -- passes t
+  pub stays : (t : ℕ) → 1 ≤ t → t ≤ after mode es .history .last
+      → ((w : ℕ) (p : Pending) → after mode es .history .pending w ≡ some p → t < p .ts)
+      → (more : List Event) (buffer : List ℕ) → horizonAfter mode (es ++ more) ≤ t → 3 * length (listing (after mode es .history) t) ≤ length buffer
+      → scan (after mode (es ++ more) .state) t buffer ≡ listed (listing (after mode es .history) t) buffer

@@ -5,6 +5,7 @@ pub mod Rules
 pub mod Answers
 pub mod Range
 pub mod Snapshot
+pub mod Cleaning
 pub mod History
 pub mod Isolation
 pub mod Binding

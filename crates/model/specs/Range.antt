@@ -42,6 +42,7 @@ unfoldable pub inRange : State → Bool
 inRange st =
     every
     (leb (st .shared .last) timestamps
+    ∷ leb (st .horizon) (st .shared .last)
     ∷ locksInRange (st .shared .locks)
     ∷ writersInRange (st .shared .last) (st .writers)
     ∷ indexInRange (st .shared .index)

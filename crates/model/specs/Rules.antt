@@ -219,7 +219,7 @@ answered n st = record { answer = n; state = st }
 
 -- the outcome of writer w's action in the whole state
 abbrev pub updated : State → ℕ → Outcome → Answered
-updated st w o = answered (o .answer) (record { mode = st .mode; shared = o .shared; writers = set (st .writers) w (o .writer) })
+updated st w o = answered (o .answer) (record { mode = st .mode; horizon = st .horizon; shared = o .shared; writers = set (st .writers) w (o .writer) })
 
 -- the record of writer w
 abbrev pub writerOf : State → ℕ → Writer

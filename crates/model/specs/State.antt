@@ -19,9 +19,10 @@ pub record Shared : Type 0 where
   pub present : List Bool  -- has the slice of group g and timestamp n a row of key k, at `rowAt g n k`
   pub values : List ℕ  -- and the row's value
 
--- the mode stands beside what a rule may change, so that no step changes it (document 02, Q-9)
+-- the mode and the horizon stand beside what a rule may change, so that no step changes them (document 02, Q-9 and Q-13)
 pub record State : Type 0 where
   pub mode : Mode
+  pub horizon : ℕ  -- the timestamp of the last clean that was taken, or 0
   pub shared : Shared
   pub writers : List Writer
 
@@ -30,6 +31,7 @@ abbrev pub stateOf : Table → List Bool → List ℕ → State
 stateOf t present values =
     record {
       mode = t .mode;
+      horizon = t .horizon;
       shared = record { last = t .last; locks = t .locks; index = t .index; timeline = t .timeline; present = present; values = values };
       writers = t .writers;
     }
@@ -38,12 +40,13 @@ stateOf t present values =
 abbrev pub ready : Writer
 ready = record { phase = 0; put = false; made = false; key = 0; group = 0; ts = 0; base = 0; value = 0 }
 
--- a fresh table of a mode: nothing issued, indexed or locked, and all writers ready (document 01, What the engine holds); no row is present, each
--- value is 0
+-- a fresh table of a mode: nothing issued, indexed, locked or cleaned, and all writers ready (document 01, What the engine holds); no row is present,
+-- each value is 0
 unfoldable pub fresh : Mode → State
 fresh mode =
     record {
       mode = mode;
+      horizon = 0;
       shared =
           record {
             last = 0;
@@ -65,6 +68,10 @@ inflight g = 2 + g
 
 abbrev pub completed : ℕ → ℕ
 completed g = 2 + groups + g
+
+-- the file group of a completed instant
+abbrev pub groupOfCompleted : ℕ → ℕ
+groupOfCompleted i = i - completed 0
 
 -- the largest completed timestamp of file group g at or below n, or 0
 unfoldable pub newest : List ℕ → ℕ → ℕ → ℕ

@@ -1,4 +1,4 @@
-// The answer numbers of document 01, and 18 and 19 of document 02; specs/Answers.antt has the same.
+// The answer numbers of document 01, and 18, 19 and 32 to 34 of document 02; specs/Answers.antt has the same.
 pub const TAKEN: u8 = 0;
 
 pub const COMMITTED: u8 = 1;
@@ -32,3 +32,9 @@ pub const ERASED_VALUE: u8 = 18;
 pub const GROUP_LOCKED: u8 = 19;
 
 pub const NO_ROOM: u8 = 31;
+
+pub const BELOW_HORIZON: u8 = 32;
+
+pub const BASE_NEEDED: u8 = 33;
+
+pub const NO_HORIZON: u8 = 34;

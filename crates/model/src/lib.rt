@@ -35,6 +35,8 @@ pub enum Mode {
 pub struct Table {
     // Chosen for good when the table is made.
     pub mode: Mode,
+    // The timestamp of the last clean that was taken, or 0. Reads and scans below it are refused.
+    pub horizon: u8,
     // The last timestamp issued.
     pub last: u8,
     // 0: free; w + 1: held by writer w. An optimistic table has one lock, the first; a pessimistic one has a lock for each file group.
@@ -76,7 +78,7 @@ pub struct Step {
     pub action: Action,
 }
 
-// The answer to a step, and the table after it.
+// The answer to a step or a clean, and the table after it.
 pub struct Stepped {
     pub answer: u8,
     pub table: Table,

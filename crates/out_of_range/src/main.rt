@@ -11,6 +11,7 @@ use model::limits::KEYS;
 use model::limits::ROWS;
 use model::limits::TIMESTAMPS;
 use model::limits::WRITERS;
+use scripts::clean;
 use scripts::instant;
 use scripts::play;
 use scripts::point_read;
@@ -59,6 +60,7 @@ fn table_of(last: u8, entry: u8, instant: u8, writer: Writer, others: Writer) ->
     writers[WRITERS - 1] = writer;
     Table {
         mode: Mode::Optimistic,
+        horizon: last,
         last,
         locks: [LOCK; GROUPS],
         writers,
@@ -68,7 +70,8 @@ fn table_of(last: u8, entry: u8, instant: u8, writer: Writer, others: Writer) ->
 }
 
 // On a table whose last row of all is present, that of the last key, file group and timestamp: a step by writer 16, as a log and by `advance`,
-// a point read of key 32, a scan with room and one without, and the instant call. In range they give 10, 10, 12, the row, 31 and the instant.
+// a point read of key 32, a scan with room and one without, the instant call, and a clean at 129. In range they give 10, 10, 12, the row, 31, the
+// instant and 34.
 fn tried(title: &[u8], t: Table) {
     let mut present = [false; ROWS];
     let mut values: [Value; ROWS] = [0; ROWS];
@@ -98,12 +101,14 @@ fn tried(title: &[u8], t: Table) {
     scan_into(t, &present, &values, LAST as u64, &mut [9; 4]);
     scan_into(t, &present, &values, LAST as u64, &mut [9; 2]);
     instant(t, LAST as u64);
+    clean(t, &mut present, LAST as u64 + 1);
 }
 
 // A table of a mode with the largest numbers but for its locks.
 fn with_locks(mode: Mode, locks: [u8; GROUPS]) -> Table {
     Table {
         mode,
+        horizon: LAST,
         last: LAST,
         locks,
         writers: [writer(PHASE, KEY, GROUP, LAST, LAST); WRITERS],
@@ -132,6 +137,17 @@ fn of_the_table() {
         b"17: instant above the last timestamp",
         table_of(LAST - 1, ENTRY, REQUESTED, y, y),
     );
+}
+
+// A horizon above the last timestamp, in either mode.
+fn of_the_horizon() {
+    let y = writer(PHASE, KEY, GROUP, LAST - 1, LAST - 1);
+    let mut one_left = table_of(LAST - 1, ENTRY, NONE, y, y);
+    one_left.horizon = LAST;
+    tried(b"17: horizon", one_left);
+    let mut pessimistic = with_locks(Mode::Pessimistic, [LOCK; GROUPS]);
+    pessimistic.horizon = LAST + 1;
+    tried(b"17: horizon, pessimistic", pessimistic);
 }
 
 // Every lock has the same limit, in either mode.
@@ -269,6 +285,7 @@ fn back_in_range() {
 
 fn main() {
     of_the_table();
+    of_the_horizon();
     of_a_lock();
     of_a_writer();
     of_a_ready_writer();

@@ -10,10 +10,15 @@ pub fn text(s: &[u8]) {
     io::write_all(STDOUT_FILENO, s);
 }
 
+// A number, behind a mark.
+pub fn marked(mark: &[u8], n: u64) {
+    text(mark);
+    io::print_decimal(STDOUT_FILENO, n);
+}
+
 // A number, behind a space.
 pub fn number(n: u64) {
-    text(b" ");
-    io::print_decimal(STDOUT_FILENO, n);
+    marked(b" ", n);
 }
 
 fn byte(n: u8) {
@@ -66,7 +71,7 @@ fn cell(at: usize, n: Value) {
 }
 
 // The first rows of a buffer.
-fn rows(buffer: &[Value], count: usize) {
+pub fn rows(buffer: &[Value], count: usize) {
     let mut at: usize = 0;
     while at < buffer.len() && at / 3 < count {
         cell(at, buffer[at]);
@@ -89,6 +94,13 @@ pub fn listing(at: u64, found: Scanned, buffer: &[Value]) {
     } else {
         rows(buffer, found.count);
     }
+    text(b"\n");
+}
+
+// What a clean at a timestamp gave.
+pub fn cleaned(at: u64, answer: u8) {
+    head(b"clean at", at);
+    byte(answer);
     text(b"\n");
 }
 
@@ -161,4 +173,32 @@ pub fn instant(at: u64, state: InstantState) {
         InstantState::Completed(group) => in_group(b" completed", group),
     }
     text(b"\n");
+}
+
+// A refusal in short.
+pub fn short_refusal(answer: u8) {
+    marked(b" !", answer as u64);
+}
+
+// What a point read gave, in short: a value and its file group, a point for absent, or a refusal.
+pub fn short_found(found: Found) {
+    match found {
+        Found::Refused(answer) => short_refusal(answer),
+        Found::Absent => text(b" ."),
+        Found::Present { value, group } => {
+            number(value);
+            marked(b"/", group as u64);
+        }
+    }
+}
+
+// The state of an instant, in short: -, r, or i or c and its file group.
+pub fn short_instant(state: InstantState) {
+    match state {
+        InstantState::Refused(answer) => short_refusal(answer),
+        InstantState::None => text(b" -"),
+        InstantState::Requested => text(b" r"),
+        InstantState::Inflight(group) => marked(b" i", group as u64),
+        InstantState::Completed(group) => marked(b" c", group as u64),
+    }
 }

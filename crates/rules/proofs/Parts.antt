@@ -21,7 +21,7 @@ actor st w e l = let r = ranged st e in rw (le-leb _ _ (r .shared .last), writer
 
 -- a record stored where it stands changes nothing
 same : (st : State) (w n : ℕ) → updated st w (outcome n (getD (st .writers) w ready) (st .shared)) ≡ answered n st
-same st w n = ap (λ ws. answered n (record { mode = st .mode; shared = st .shared; writers = ws })) (set-getD (st .writers) w ready)
+same st w n = ap (λ ws. answered n (record { mode = st .mode; horizon = st .horizon; shared = st .shared; writers = ws })) (set-getD (st .writers) w ready)
 
 module _ (st : State) (s : Step) where
   -- the step on the parts, and its outcome in the whole state

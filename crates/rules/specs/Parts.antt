@@ -12,8 +12,9 @@ use Rattle.model.specs.declared.Mode.{Mode}
 use Rattle.model.specs.declared.Writer.{Writer}
 use Rattle.model.specs.declared.Step.{Step}
 use Rattle.metadata.specs.Actor.{actorInRange}
-use Rattle.rules.specs.Fields.{Fields}
-use Rattle.rules.specs.declared.actions.Acted.{Acted}
+use Rattle.verdicts.specs.Fields.{Fields}
+use Rattle.verdicts.specs.Verdicts.{outcomeOf}
+use Rattle.verdicts.specs.declared.Acted.{Acted}
 
 -- the place of a writer's record: that of its number, or the first for a number past the last
 abbrev pub slotOf : ℕ → ℕ
@@ -31,10 +32,6 @@ actOnParts mode tested x s p =
     cond (not tested) (outcome outOfRange x s)
     (cond (leb writers (p .writer)) (outcome noWriter x s)
     (cond (not (actorInRange (s .last) x)) (outcome outOfRange x s) (act mode x (p .writer) s (p .action))))
-
--- what an action gave, with the shared part after it
-abbrev pub outcomeOf : Acted → Shared → Outcome
-outcomeOf r s = outcome (r .answer) (r .writer) s
 
 -- a call that gave r, and takes these fields, gives what f says of the shared part before it
 abbrev pub OutcomeIs : Acted → Fields → (Shared → Outcome) → Type 0

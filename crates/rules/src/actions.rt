@@ -1,19 +1,17 @@
-// The rules of the eight actions, each on the writer's own record and on what it takes of the shared part; and the one place where an
-// operation ends. The numbers are those of document 01, A writer's walk.
+// The rules of the actions but the start, each on the writer's own record and on what it takes of the shared part; and the one dispatch of an action.
+// The numbers are those of document 01, A writer's walk.
 ghost use mathlib.Core.Path.{_≡_};
 ghost use mathlib.Core.Bool.{not, _&&_};
 ghost use Prim.Native.Nat.{_<_};
 ghost use lib.Dec.{eqb};
-ghost use Rattle.model.specs.Limits.{writers, keys, groups};
+ghost use Rattle.model.specs.Limits.{writers};
 ghost use Rattle.model.specs.State.{withLast, withLocks, withIndex, withTimeline, withPresent, withValues};
-ghost use Rattle.model.specs.State as state;
 ghost use Rattle.model.specs.Rules as rules;
-ghost use Rattle.rules.specs.Fields.{noField, reading, changing, together, allFields};
-ghost use Rattle.rules.specs.Inner.{Bounds, Follows, CarriesOut};
-use common::Word;
+ghost use Rattle.verdicts.specs.Fields.{noField, reading, changing, together, allFields};
+ghost use Rattle.verdicts.specs.Verdicts.{Follows};
+ghost use Rattle.rules.specs.Inner.{Bounds};
 use locks::after_index;
 use locks::blocked;
-use locks::free_locks;
 use locks::may_check;
 use locks::names_other;
 use locks::take_lock;
@@ -22,195 +20,28 @@ use metadata::newest_above;
 use metadata::newest_of;
 use model::Action;
 use model::Mode;
-use model::Operation;
 use model::Value;
 use model::Writer;
 use model::answers::ABORTED;
 use model::answers::COMMITTED;
-use model::answers::ERASED_VALUE;
 use model::answers::GROUP_CHANGED;
 use model::answers::GROUP_LOCKED;
-use model::answers::NO_GROUP;
-use model::answers::NO_KEY;
-use model::answers::NO_TIMESTAMP;
 use model::answers::NOT_INDEXED;
 use model::answers::OTHER_GROUP;
 use model::answers::TABLE_LOCKED;
-use model::answers::TAKEN;
 use model::answers::TOO_LATE;
 use model::answers::WRONG_PHASE;
 use model::instants::COMPLETED;
 use model::instants::INFLIGHT;
-use model::instants::REQUESTED;
-use model::limits::ERASED_WORD;
 use model::limits::GROUPS;
 use model::limits::KEYS;
 use model::limits::ROWS;
 use model::limits::TIMESTAMPS;
+use operations::start;
 use slices::store_slice;
-
-// What a rule says of a step: it is refused, or the operation ends, or the writer goes on as the record given.
-pub enum Verdict {
-    Refused(u8),
-    Ended(u8),
-    GoesOn(Writer),
-}
-
-// What an action gave: its answer, and the writer's record after it.
-pub struct Acted {
-    pub answer: u8,
-    pub writer: Writer,
-}
-
-// A writer with no operation.
-pub fn ready() -> Writer
-    ensures { λ r. ⌜ r ≡ state.ready ⌝ }
-{
-    Writer {
-        phase: 0,
-        put: false,
-        made: false,
-        key: 0,
-        group: 0,
-        ts: 0,
-        base: 0,
-        value: 0,
-    }
-}
-
-// A writer at its next phase, with a file group and a base.
-fn moved(x: Writer, phase: u8, group: u8, base: u8) -> Writer
-    ensures { λ r. ⌜ r ≡ rules.moved x phase group base ⌝ }
-{
-    Writer {
-        phase,
-        put: x.put,
-        made: x.made,
-        key: x.key,
-        group,
-        ts: x.ts,
-        base,
-        value: x.value,
-    }
-}
-
-// A writer whose operation has made the index entry of its key, or has not.
-fn with_made(x: Writer, made: bool) -> Writer
-    ensures { λ r. ⌜ r ≡ rules.withMade x made ⌝ }
-{
-    Writer {
-        phase: x.phase,
-        put: x.put,
-        made,
-        key: x.key,
-        group: x.group,
-        ts: x.ts,
-        base: x.base,
-        value: x.value,
-    }
-}
-
-// An operation's key.
-fn key_of(op: Operation) -> Word
-    ensures { λ r. ⌜ r ≡ rules.keyOf op ⌝ }
-{
-    match op {
-        Operation::Put {
-            key,
-            value: _,
-            group: _,
-        } => key,
-        Operation::Remove { key } => key,
-    }
-}
-
-// The file group that a put proposes.
-fn group_of(op: Operation) -> Word
-    ensures { λ r. ⌜ r ≡ rules.groupOf op ⌝ }
-{
-    match op {
-        Operation::Put {
-            key: _,
-            value: _,
-            group,
-        } => group,
-        Operation::Remove { key: _ } => 0,
-    }
-}
-
-// Is an operation a put of the erased word?
-fn puts_erased(op: Operation) -> bool
-    ensures { λ r. ⌜ r ≡ rules.putsErased op ⌝ }
-{
-    match op {
-        Operation::Put {
-            key: _,
-            value,
-            group: _,
-        } => value == ERASED_WORD,
-        Operation::Remove { key: _ } => false,
-    }
-}
-
-// A writer that starts an operation under a timestamp.
-fn begin(op: Operation, ts: u8) -> Writer
-    requires { ⌜ (rules.keyOf op < keys) × (rules.groupOf op < groups) ⌝ }
-    ensures { λ r. ⌜ r ≡ rules.begun op ts ⌝ }
-{
-    match op {
-        Operation::Put { key, value, group } => Writer {
-            phase: 1,
-            put: true,
-            made: false,
-            key: key as u8,
-            group: group as u8,
-            ts,
-            base: 0,
-            value,
-        },
-        Operation::Remove { key } => Writer {
-            phase: 1,
-            put: false,
-            made: false,
-            key: key as u8,
-            group: 0,
-            ts,
-            base: 0,
-            value: 0,
-        },
-    }
-}
-
-// 1. Start: the next timestamp is issued, its instant requested.
-fn start(x: Writer, op: Operation, last: &mut u8, timeline: &mut [u8; TIMESTAMPS]) -> Verdict
-    ensures { λ r. ⌜ Follows x r (together (changing withLast last) (changing withTimeline timeline)) (λ s. rules.start x s op) ⌝ }
-{
-    let no_key = key_of(op) >= KEYS as Word;
-    let no_group = group_of(op) >= GROUPS as Word;
-    let erased = puts_erased(op);
-    let busy = x.phase != 0;
-    if no_key {
-        return Verdict::Refused(NO_KEY);
-    }
-    if no_group {
-        return Verdict::Refused(NO_GROUP);
-    }
-    if erased {
-        return Verdict::Refused(ERASED_VALUE);
-    }
-    if busy {
-        return Verdict::Refused(WRONG_PHASE);
-    }
-    let issued = *last;
-    if issued >= TIMESTAMPS as u8 {
-        return Verdict::Refused(NO_TIMESTAMP);
-    }
-    let slot = issued as usize;
-    timeline[slot] = REQUESTED;
-    let ts = issued + 1;
-    *last = ts;
-    Verdict::GoesOn(begin(op, ts))
-}
+use verdicts::Verdict;
+use verdicts::moved;
+use verdicts::with_made;
 
 // 2. Look up: the file group that the index has for the key, or the one that a put proposes; an unindexed remove ends.
 fn look_up(x: Writer, index: &[u8; KEYS]) -> Verdict
@@ -379,52 +210,5 @@ pub fn decide(
         Action::Check => check_conflict(mode, x, *last, &*timeline),
         Action::Commit => commit(x, &mut *timeline),
         Action::Abort => abort(x),
-    }
-}
-
-// The index after an operation on a key has ended with an answer: the entry that it made is taken out again, unless it has committed.
-fn withdraw(answer: u8, made: bool, key: u8, index: &mut [u8; KEYS])
-    requires { ⌜ key < keys ⌝ }
-    ensures { λ r. ⌜ now (index .exit) ≡ rules.withdrawn answer made key (now (index .entry)) ⌝ }
-{
-    if answer == COMMITTED {
-        return;
-    }
-    if !made {
-        return;
-    }
-    let slot = key as usize;
-    index[slot] = 0;
-}
-
-// A verdict carried out for writer w. Every operation that ends or commits closes here: its writer is ready, each lock that the writer held is free,
-// and the index entry that it made withdrawn, unless it has committed.
-pub fn carry_out(
-    v: Verdict,
-    x: Writer,
-    w: u8,
-    locks: &mut [u8; GROUPS],
-    index: &mut [u8; KEYS],
-) -> Acted
-    requires { ⌜ (w < writers) × Bounds x ⌝ }
-    ensures { λ r. ⌜ CarriesOut x w v r (together (changing withLocks locks) (changing withIndex index)) ⌝ }
-{
-    match v {
-        Verdict::Refused(n) => Acted {
-            answer: n,
-            writer: x,
-        },
-        Verdict::Ended(n) => {
-            withdraw(n, x.made, x.key, &mut *index);
-            free_locks(w, &mut *locks);
-            Acted {
-                answer: n,
-                writer: ready(),
-            }
-        }
-        Verdict::GoesOn(y) => Acted {
-            answer: TAKEN,
-            writer: y,
-        },
     }
 }

@@ -1,10 +1,8 @@
 // The rules of a step: the tests of answers 17 and 10, and the action, on the parts of a table. One dispatch for every call that takes steps.
 mod actions;
 
-ghost use Rattle.rules.specs.Fields.{allFields};
+ghost use Rattle.verdicts.specs.Fields.{allFields};
 ghost use Rattle.rules.specs.Parts.{Slot, actOnParts, OutcomeIs};
-pub use actions::Acted;
-pub use actions::ready;
 use common::Word;
 use metadata::actor_in_range;
 use model::Mode;
@@ -18,6 +16,8 @@ use model::limits::KEYS;
 use model::limits::ROWS;
 use model::limits::TIMESTAMPS;
 use model::limits::WRITERS;
+use verdicts::Acted;
+use verdicts::carry_out;
 
 // The place of a writer's record: that of its number, or the first for a number past the last.
 pub fn slot_of(w: Word) -> usize
@@ -74,5 +74,5 @@ pub fn act(
         &mut *present,
         &mut *values,
     );
-    actions::carry_out(v, x, w, &mut *locks, &mut *index)
+    carry_out(v, x, w, &mut *locks, &mut *index)
 }

@@ -1,4 +1,4 @@
-// The reads of a table, printed.
+// The reads and the cleans of a table, printed.
 ghost use mathlib.Core.Path.{_≡_};
 ghost use Rattle.model.specs.Snapshot.{scan};
 ghost use Rattle.model.specs.Calls.{stateBefore};
@@ -35,6 +35,13 @@ pub fn scan_into(
 // The row of a key at a timestamp.
 pub fn point_read(t: Table, present: &[bool; ROWS], values: &[Value; ROWS], at: u64, key: Word) {
     report::found(key, at, snapshot::read(t, present, values, at, key));
+}
+
+// A clean at a timestamp, its answer, and the table after it.
+pub fn clean(t: Table, present: &mut [bool; ROWS], at: u64) -> Table {
+    let done = cleaning::clean(t, present, at);
+    report::cleaned(at, done.answer);
+    done.table
 }
 
 // The state of the instant of a timestamp.

@@ -3,9 +3,11 @@ mod calls;
 mod script;
 mod steps;
 
+pub use calls::clean;
 pub use calls::instant;
 pub use calls::point_read;
 pub use calls::scan_into;
+pub use script::piece;
 pub use script::play;
 pub use script::run_printed;
 pub use script::story;

@@ -53,8 +53,8 @@ pub fn run_printed(
     ran
 }
 
-// Runs a piece of a script, and reads the table after it.
-fn piece(
+// Runs a piece of a script, and reads the table after it at the timestamps `first` to `last`.
+pub fn piece(
     t: Table,
     present: &mut [bool; ROWS],
     values: &mut [Value; ROWS],

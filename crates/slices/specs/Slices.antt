@@ -1,4 +1,4 @@
--- The rows of file slices for any numbers: where a row stands, and what a writer's write step stores.
+-- The rows of file slices for any numbers: where a row stands, what a writer's write step stores, and what is left once a slice is dropped.
 use Prim.Native.Nat.{ℕ}
 use mathlib.Core.Bool.{Bool, false, cond}
 use mathlib.Core.List.{List, [], _∷_}
@@ -10,6 +10,7 @@ use Rattle.common.specs.Lent.{Lent}
 use Rattle.model.specs.Limits.{keys, groups, timestamps, rows}
 use Rattle.model.specs.State.{rowAt}
 use Rattle.model.specs.Rules.{sliced}
+use Rattle.model.specs.Cleaning.{emptied}
 use Rattle.model.specs.declared.Writer.{Writer}
 
 -- the place of the row of key k in the slice of file group g and timestamp n; the end of the rows where one of the three is out of range
@@ -29,3 +30,7 @@ abbrev pub StoresSlice : Writer → Lent Bool → Lent ℕ → Type 0
 StoresSlice x present values =
     (now (present .exit) ≡ sliceStored false (now (present .entry)) x (x .put))
     × (now (values .exit) ≡ sliceStored 0 (now (values .entry)) x (x .value))
+
+-- the presence of rows with file group g's slice of timestamp n dropped (document 02, Q-13); as it was where one of the two is out of range
+abbrev pub sliceDropped : List Bool → ℕ → ℕ → List Bool
+sliceDropped present g n = cond (every (ltb g groups ∷ leb 1 n ∷ leb n timestamps ∷ [])) (emptied present g n) present

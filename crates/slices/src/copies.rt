@@ -1,10 +1,10 @@
-// A slice is stored: the rows of its base are copied, or cleared for base 0, and the one of the writer's key is set.
+// A slice is stored: the rows of its base are copied, or cleared for base 0, and the one of the writer's key is set. It is dropped: all are cleared.
 ghost use mathlib.Core.Path.{_≡_};
 ghost use mathlib.Core.Bool.{false};
 ghost use Prim.Native.Nat.{_<_, _≤_};
 ghost use Rattle.model.specs.Limits.{keys, groups, timestamps};
 ghost use Rattle.model.specs.Rules.{copied, sliced};
-ghost use Rattle.slices.specs.Slices.{namesSlice, StoresSlice};
+ghost use Rattle.slices.specs.Slices.{namesSlice, StoresSlice, sliceDropped};
 use crate::places::row_at;
 use model::Value;
 use model::Writer;
@@ -143,4 +143,20 @@ pub fn store_slice(present: &mut [bool; ROWS], values: &mut [Value; ROWS], x: Wr
     let key = x.key as usize;
     slice_present(&mut *present, group, base, ts, key, x.put);
     slice_values(&mut *values, group, base, ts, key, x.value);
+}
+
+// Drops the slice of a file group and a timestamp: its rows become absent. Nothing changes where one of the two is out of range.
+pub fn drop_slice(present: &mut [bool; ROWS], group: u8, ts: u8)
+    ensures { λ _. ⌜ now (present .exit) ≡ sliceDropped (now (present .entry)) group ts ⌝ }
+{
+    if group >= GROUPS as u8 {
+        return;
+    }
+    if ts < 1 {
+        return;
+    }
+    if ts > TIMESTAMPS as u8 {
+        return;
+    }
+    clear_present(&mut *present, group as usize, ts as usize);
 }

@@ -2,5 +2,6 @@
 mod copies;
 mod places;
 
+pub use copies::drop_slice;
 pub use copies::store_slice;
 pub use places::row_place;

@@ -1,14 +1,20 @@
 -- What the inner functions of a read ask of each other and promise. `slices` has the timestamp of each file group's slice that counts, or 0 for none.
 use Prim.Native.Nat.{ℕ, _+_, _-_, _*_, _≤_, _<_, min}
-use mathlib.Core.Bool.{Bool, true, false, cond}
+use mathlib.Core.Bool.{Bool, true, false, cond, not}
 use mathlib.Core.Path.{_≡_}
 use mathlib.Core.List.{List}
 use lib.ListN.{length, getD}
+use lib.Dec.{ltb}
 use Rattle.common.specs.Counting.{listBelow, sum}
 use Rattle.model.specs.Limits.{keys, groups, timestamps}
+use Rattle.model.specs.Answers.{taken, outOfRange, belowHorizon}
 use Rattle.model.specs.State.{completed, newest, rowIn}
 use Rattle.model.specs.Snapshot.{Row, shown, rowsOf, allRows}
 use Rattle.snapshot.specs.declared.rows.KeyCounts.{KeyCounts}
+
+-- the refusal of a read at timestamp t, where `tested` is the result of the range test: 17, then 32; 0 for none
+abbrev pub refusal : Bool → ℕ → ℕ → ℕ
+refusal tested t horizon = cond (not tested) outOfRange (cond (ltb t horizon) belowHorizon taken)
 
 -- each instant of the timeline is one of the numbers that stand for an instant
 abbrev pub Coded : List ℕ → Type 0

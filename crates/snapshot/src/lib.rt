@@ -9,6 +9,7 @@ ghost use Prim.Native.Nat.{ℕ};
 ghost use Rattle.model.specs.State.{stateOf};
 ghost use Rattle.model.specs.Snapshot.{unlisted, scan, pointRead, foundNumbers, instantState, instantAt, instantNumbers};
 ghost use Rattle.model.specs.Calls.{stateBefore, scanned};
+ghost use Rattle.snapshot.specs.Inner.{refusal};
 use common::Word;
 use metadata::in_range;
 use metadata::instant_of;
@@ -17,6 +18,7 @@ use model::InstantState;
 use model::Scanned;
 use model::Table;
 use model::Value;
+use model::answers::BELOW_HORIZON;
 use model::answers::NO_KEY;
 use model::answers::NO_ROOM;
 use model::answers::OUT_OF_RANGE;
@@ -27,6 +29,20 @@ use model::instants::NONE;
 use model::instants::REQUESTED;
 use model::limits::KEYS;
 use model::limits::ROWS;
+
+// The refusal of a read of a table whose range test gave `tested`, or TAKEN.
+fn refusal_of(tested: bool, at: u64, horizon: u8) -> u8
+    ensures { λ r. ⌜ r ≡ refusal tested at horizon ⌝ }
+{
+    let below = at < horizon as u64;
+    if !tested {
+        return OUT_OF_RANGE;
+    }
+    if below {
+        return BELOW_HORIZON;
+    }
+    TAKEN
+}
 
 // A scan that is refused: it counts no row and leaves the buffer as it is.
 fn refused(answer: u8, buffer: &mut [Word]) -> Scanned
@@ -45,8 +61,9 @@ pub fn scan(
 ) -> Scanned
     ensures { λ r. ⌜ scanned r buffer ≡ scan (stateBefore t present values) at (now (buffer .entry)) ⌝ }
 {
-    if !in_range(t) {
-        return refused(OUT_OF_RANGE, buffer);
+    let answer = refusal_of(in_range(t), at, t.horizon);
+    if answer != TAKEN {
+        return refused(answer, buffer);
     }
     let timeline = t.timeline;
     let slices = newest::newest_of_groups(timeline, at);
@@ -67,8 +84,9 @@ pub fn scan(
 pub fn read(t: Table, present: &[bool; ROWS], values: &[Value; ROWS], at: u64, key: Word) -> Found
     ensures { λ r. ⌜ foundNumbers r ≡ foundNumbers (pointRead (stateBefore t present values) at key) ⌝ }
 {
-    if !in_range(t) {
-        return Found::Refused(OUT_OF_RANGE);
+    let refusal = refusal_of(in_range(t), at, t.horizon);
+    if refusal != TAKEN {
+        return Found::Refused(refusal);
     }
     if key >= KEYS as Word {
         return Found::Refused(NO_KEY);

@@ -1,12 +1,12 @@
 // A table whose writers are said to have made an index entry that no step of theirs made.
-use crate::set::bare;
-use crate::set::putting;
-use crate::set::removing;
-use crate::set::story;
 use model::Mode;
 use model::Table;
 use model::Writer;
 use model::instants::COMPLETED;
+use set_by_hand::bare;
+use set_by_hand::putting;
+use set_by_hand::removing;
+use set_by_hand::story;
 
 // A writer that is said to have made its key's entry.
 fn maker(x: Writer) -> Writer {

@@ -1,9 +1,4 @@
 // Tables whose slices only their file group and timestamp together tell apart.
-use crate::set::bare;
-use crate::set::putting;
-use crate::set::set_rows;
-use crate::set::story;
-use common::Word;
 use model::Mode;
 use model::Table;
 use model::Value;
@@ -12,6 +7,10 @@ use model::instants::INFLIGHT;
 use model::limits::ROWS;
 use scripts::point_read;
 use scripts::scan_into;
+use set_by_hand::bare;
+use set_by_hand::putting;
+use set_by_hand::set_rows;
+use set_by_hand::story;
 
 // Timestamp 1 is completed in file group 0. Writer 1 holds it too, in group 1: what it writes is no slice of group 0.
 pub fn completed_elsewhere() {
@@ -59,7 +58,7 @@ pub fn two_groups_at_once() {
 }
 
 // Point reads of key 1, and scans with room for one row and for two.
-fn reads(t: Table, rows: &[Word]) {
+fn reads(t: Table, rows: &[u8]) {
     let mut present = [false; ROWS];
     let mut values: [Value; ROWS] = [0; ROWS];
     set_rows(&mut present, &mut values, rows);

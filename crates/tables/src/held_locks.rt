@@ -1,8 +1,4 @@
 // Tables whose locks no step has given to their holders.
-use crate::set::bare;
-use crate::set::putting;
-use crate::set::removing;
-use crate::set::story;
 use model::Mode;
 use model::Table;
 use model::Value;
@@ -13,6 +9,10 @@ use model::instants::REQUESTED;
 use model::limits::GROUPS;
 use model::limits::ROWS;
 use scripts::run_printed;
+use set_by_hand::bare;
+use set_by_hand::putting;
+use set_by_hand::removing;
+use set_by_hand::story;
 
 // Writer 2 holds the lock, with no operation. Writer 0 is at its commit step, writer 1, with a remove, at its check.
 fn held() -> Table {

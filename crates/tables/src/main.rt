@@ -3,7 +3,6 @@ mod entries;
 mod groups;
 mod held_locks;
 mod numbers;
-mod set;
 
 fn main() {
     groups::completed_elsewhere();

@@ -1,18 +1,18 @@
 -- A trace: what is asked of the definitions, and what they are stated to give, in numbers.
 use Prim.Native.Nat.{ℕ}
 use mathlib.Core.Bool.{true, false, cond}
-use mathlib.Core.List.{List, [], _∷_, _++_, flatten, map, foldl}
+use mathlib.Core.List.{List, [], _∷_, _++_, flatten, map}
 use mathlib.Core.Option.{Option, none, some}
 use lib.ListN.{getD, replicate}
 use Rattle.leb128.specs.Coding.{encoded, decodedAt, decodedNumbers}
 use Rattle.common.specs.Counting.{listBelow}
 use Rattle.model.specs.Limits.{writers}
 use Rattle.model.specs.State.{Shared, State, rowAt}
-use Rattle.model.specs.Rules.{entryOf, writerOf, step}
-use Rattle.model.specs.Machine.{answersFrom, commitMachine}
+use Rattle.model.specs.Rules.{entryOf, Answered, writerOf, step}
 use Rattle.model.specs.Snapshot.{Listed, scan, pointRead, foundNumbers, instantAt, instantNumbers}
 use Rattle.model.specs.History.{Pending, Committed, History}
-use Rattle.model.specs.Isolation.{after}
+use Rattle.model.specs.Cleaning.{clean}
+use Rattle.model.specs.Isolation.{Event, takesStep, cleansAt, beginning}
 use Rattle.model.specs.declared.Mode.{Mode}
 use Rattle.model.specs.declared.Writer.{Writer}
 use Rattle.model.specs.declared.Operation.{Operation}
@@ -24,9 +24,10 @@ use Rattle.metadata.specs.Search.{newestAbove}
 use Rattle.metadata.specs.declared.timeline.Search.{Search}
 use Rattle.metadata.specs.declared.timeline.Search.the-variants.{Hit, NoHit}
 use Rattle.steplog.specs.Records.{numbersOf, recordAt, recordNumbers, LogRead}
-use Rattle.steplog.specs.Writing.{LogWritten, logWritten}
-use Rattle.run.specs.Runs.{Input, Run, runOf}
+use Rattle.logwriter.specs.Writing.{LogWritten, logWritten}
+use Rattle.run.specs.Runs.{Input, Run}
 use Rattle.rules.specs.Parts.{slotOf, actOnParts}
+use Rattle.traces.specs.Ways.{Way, stepwise}
 
 pub data Case : Type 0 where
   encode : ℕ → Case  -- a number
@@ -43,11 +44,14 @@ pub data Case : Type 0 where
   place : ℕ → ℕ → ℕ → Case  -- the place of the row of a file group, timestamp and key
   rows : State → List Step → List ℕ → Case  -- the rows at some places after steps on a table
   instants : State → List Step → List ℕ → Case  -- the instants of some timestamps after steps on a table
-  history : Mode → List Step → Case  -- the history of steps on a fresh table of a mode
-  stored : Mode → List Step → ℕ → ℕ → Case  -- what the write steps among steps on a fresh table of a mode stored under a timestamp, of a key
+  history : Mode → List Event → Case  -- the history of events on a fresh table of a mode
+  stored : Mode → List Event → ℕ → ℕ → Case  -- what the write steps among events on a fresh table of a mode stored under a timestamp, of a key
+  replies : Mode → List Event → List Event → Case  -- after events on a fresh table of a mode, the answers to others
+  seen : Mode → List Event → ℕ → List ℕ → Case  -- after such events the horizon, and at some timestamps what the reads give: see `seenAt`
+  cleaned : State → ℕ → List ℕ → Case  -- the answer to a clean at a timestamp, then the horizon, and the rows at some places
   onParts : State → Step → Case  -- the answer of `rules::act` to a caller who says that the table is in range, whether it is or not
   searched : List ℕ → ℕ → ℕ → ℕ → Case  -- the search of a timeline for hits of a file group, above a base and up to a last timestamp
-  judged : State → Case  -- a step of writer 16, a read of key 32, a scan with too little room, and the instant of timestamp 1
+  judged : State → Case  -- a step of writer 16, at the last timestamp a read of key 32, a scan with too little room and the instant, and a clean at 0
 
 -- the answer of the log writer, its byte count and the buffer
 abbrev pub writtenNumbers : LogWritten → List ℕ
@@ -75,8 +79,8 @@ abbrev pub writerNumbers : Writer → List ℕ
 writerNumbers x = x .phase ∷ cond (x .put) 1 0 ∷ cond (x .made) 1 0 ∷ x .key ∷ x .group ∷ x .ts ∷ x .base ∷ x .value ∷ []
 
 -- the last timestamp, the locks, a key's index entry and a writer's record
-abbrev pub standing : Shared → Writer → ℕ → List ℕ
-standing s x k = s .last ∷ s .locks ++ entryOf s k ∷ writerNumbers x
+abbrev pub standing : State → ℕ → ℕ → List ℕ
+standing st w k = st .shared .last ∷ st .shared .locks ++ entryOf (st .shared) k ∷ writerNumbers (writerOf st w)
 
 -- the rows at some places: present or not, and the value
 abbrev pub rowsNumbers : Shared → List ℕ → List ℕ
@@ -119,41 +123,66 @@ abbrev pub searchNumbers : Search → List ℕ
 searchNumbers (NoHit n) = 0 ∷ n ∷ []
 searchNumbers (Hit t n) = 1 ∷ t ∷ n ∷ []
 
--- a table after steps
-abbrev pub afterSteps : State → List Step → State
-afterSteps st ss = foldl (commitMachine .after) st ss
-
 -- writer w does a
 abbrev pub does : ℕ → Action → Step
 does w a = record { writer = w; action = a }
+
+-- the answers to events on a table
+abbrev pub repliesTo : State → List Event → List ℕ
+repliesTo st [] = []
+repliesTo st (takesStep s ∷ es) = step st s .answer ∷ repliesTo (step st s .state) es
+repliesTo st (cleansAt c ∷ es) = clean st c .answer ∷ repliesTo (clean st c .state) es
+
+-- at a timestamp: a scan with room for six numbers, each 99, a point read of key k, and the instant
+abbrev pub seenAt : State → ℕ → ℕ → List ℕ
+seenAt st k t = listedNumbers (scan st t (replicate 6 99)) ++ foundNumbers (pointRead st t k) ++ instantNumbers (instantAt st t)
+
+-- the horizon, and what is seen at some timestamps
+abbrev pub seenNumbers : State → ℕ → List ℕ → List ℕ
+seenNumbers st k ts = st .horizon ∷ flatten (map (seenAt st k) ts)
+
+-- the answer to a clean, the horizon after it, and the rows at some places
+abbrev pub cleanedNumbers : Answered → List ℕ → List ℕ
+cleanedNumbers r is = r .answer ∷ r .state .horizon ∷ rowsNumbers (r .state .shared) is
+
+-- what each call gives at the timestamp t
+abbrev pub judgedNumbers : State → ℕ → List ℕ
+judgedNumbers st t =
+    step st (does 16 (Start (Put 32 0 8))) .answer
+    ∷ foundNumbers (pointRead st t 32) ++ listedNumbers (scan st t (replicate 2 99)) ++ instantNumbers (instantAt st t) ++ clean st 0 .answer ∷ []
 
 -- every action, a start with a key and a group that exist
 abbrev pub actions : List Action
 actions = Start (Put 0 10 0) ∷ LookUp ∷ Read ∷ Write ∷ Index ∷ Check ∷ Commit ∷ Abort ∷ []
 
--- what the definitions give
-unfoldable pub result : Case → List ℕ
-result (encode n) = encoded n
-result (decode bytes at) = decodedNumbers (decodedAt bytes at)
-result (readRecord log at) = recordNumbers (recordAt log at)
-result (readLog rule log) = logNumbers (rule log)
-result (written ss room at) = writtenNumbers (logWritten ss (replicate room 99) at)
-result (ran st input places) = runNumbers (runOf input st (replicate places 99))
-result (answers st ss) = answersFrom commitMachine st ss
-result (eachAnswer st) = map (λ a. step st (does 0 a) .answer) actions
-result (scanned st ss t room) = listedNumbers (scan (afterSteps st ss) t (replicate room 99))
-result (read st ss t k) = foundNumbers (pointRead (afterSteps st ss) t k)
-result (stands st ss w k) = standing (afterSteps st ss .shared) (writerOf (afterSteps st ss) w) k
-result (place g n k) = rowAt g n k ∷ []
-result (rows st ss is) = rowsNumbers (afterSteps st ss .shared) is
-result (instants st ss ts) = instantsNumbers (afterSteps st ss) ts
-result (history mode ss) = historyNumbers (after mode ss .history)
-result (stored mode ss n k) = valueNumbers (after mode ss .stored n k)
-result (onParts st s) = actOnParts (st .mode) true (writerOf st (slotOf (s .writer))) (st .shared) s .answer ∷ []
-result (searched timeline g base last) = searchNumbers (newestAbove timeline g base last)
-result (judged st) =
-    step st (does 16 (Start (Put 32 0 8))) .answer
-    ∷ foundNumbers (pointRead st 1 32) ++ listedNumbers (scan st 1 (replicate 2 99)) ++ instantNumbers (instantAt st 1)
+-- what the definitions give, where lists of steps and events are carried out in one of the two ways
+unfoldable pub resultBy : Way → Case → List ℕ
+resultBy way (encode n) = encoded n
+resultBy way (decode bytes at) = decodedNumbers (decodedAt bytes at)
+resultBy way (readRecord log at) = recordNumbers (recordAt log at)
+resultBy way (readLog rule log) = logNumbers (rule log)
+resultBy way (written ss room at) = writtenNumbers (logWritten ss (replicate room 99) at)
+resultBy way (ran st input places) = runNumbers (way .run input st (replicate places 99))
+resultBy way (answers st ss) = way .answers st ss
+resultBy way (eachAnswer st) = map (λ a. step st (does 0 a) .answer) actions
+resultBy way (scanned st ss t room) = listedNumbers (scan (way .after st ss) t (replicate room 99))
+resultBy way (read st ss t k) = foundNumbers (pointRead (way .after st ss) t k)
+resultBy way (stands st ss w k) = standing (way .after st ss) w k
+resultBy way (place g n k) = rowAt g n k ∷ []
+resultBy way (rows st ss is) = rowsNumbers (way .after st ss .shared) is
+resultBy way (instants st ss ts) = instantsNumbers (way .after st ss) ts
+resultBy way (history mode es) = historyNumbers (way .executed (beginning mode) es .history)
+resultBy way (stored mode es n k) = valueNumbers (way .executed (beginning mode) es .stored n k)
+resultBy way (replies mode es more) = repliesTo (way .executed (beginning mode) es .state) more
+resultBy way (seen mode es k ts) = seenNumbers (way .executed (beginning mode) es .state) k ts
+resultBy way (cleaned st c is) = cleanedNumbers (clean st c) is
+resultBy way (onParts st s) = actOnParts (st .mode) true (writerOf st (slotOf (s .writer))) (st .shared) s .answer ∷ []
+resultBy way (searched timeline g base last) = searchNumbers (newestAbove timeline g base last)
+resultBy way (judged st) = judgedNumbers st (st .shared .last)
+
+-- as the definitions have it
+abbrev pub result : Case → List ℕ
+result = resultBy stepwise
 
 -- a case and what it is stated to give
 pub record Trace : Type 0 where

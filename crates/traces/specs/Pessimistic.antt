@@ -3,6 +3,7 @@ use Prim.Native.Nat.{ℕ}
 use mathlib.Core.List.{List, [], _∷_, _++_}
 use lib.ListN.{take}
 use Rattle.model.specs.Limits.{writers}
+use Rattle.model.specs.Isolation.{eventsOf}
 use Rattle.model.specs.declared.Mode.the-variants.{Optimistic, Pessimistic}
 use Rattle.model.specs.declared.Operation.{Operation}
 use Rattle.model.specs.declared.Operation.the-variants.{Put, Remove}
@@ -74,13 +75,13 @@ pessimisticTraces =
     ∷ (stands pessimistic (take 6 p5Waits) 1 1 gives 2 ∷ locksWith 0 1 ++ 0 ∷ writerNumbers (putting 11 2 1 0 2 0))
     ∷ (stands pessimistic (take 10 p5Waits) 1 1 gives 2 ∷ locksWith 0 2 ++ 0 ∷ writerNumbers (putting 11 3 1 0 2 1))
     ∷ (scanned pessimistic p5Waits 2 6 gives 0 ∷ 2 ∷ 0 ∷ 10 ∷ 0 ∷ 1 ∷ 11 ∷ 0 ∷ [])
-    ∷ (history Pessimistic p5Waits gives 2 ∷ idle writers ++ committedOperation 2 0 (Put 1 11 0) ++ committedOperation 1 0 (Put 0 10 0))
-    ∷ (stored Pessimistic p5Waits 2 0 gives 1 ∷ 10 ∷ [])
+    ∷ (history Pessimistic (eventsOf p5Waits) gives 2 ∷ idle writers ++ committedOperation 2 0 (Put 1 11 0) ++ committedOperation 1 0 (Put 0 10 0))
+    ∷ (stored Pessimistic (eventsOf p5Waits) 2 0 gives 1 ∷ 10 ∷ [])
     -- P6's story: the key check stays, and frees the lock of the group that the writer wrote to
     ∷ (answers pessimistic p6Unchecked gives 0 ∷ 0 ∷ 0 ∷ 0 ∷ 0 ∷ 0 ∷ 0 ∷ 1 ∷ 0 ∷ 0 ∷ 4 ∷ [])
     ∷ (stands pessimistic (take 10 p6Unchecked) 1 1 gives 2 ∷ locksWith 1 2 ++ 1 ∷ writerNumbers (putting 11 4 1 1 2 0))
     ∷ (stands pessimistic p6Unchecked 1 1 gives 2 ∷ locksWith 1 0 ++ 1 ∷ readyNumbers)
-    ∷ (history Pessimistic p6Unchecked gives 2 ∷ idle writers ++ committedOperation 1 0 (Put 1 10 0))
+    ∷ (history Pessimistic (eventsOf p6Unchecked) gives 2 ∷ idle writers ++ committedOperation 1 0 (Put 1 10 0))
     ∷ (instants pessimistic p6Unchecked (1 ∷ 2 ∷ []) gives isCompleted 0 ++ isInflight 1)
     -- P7's story: too late, the writer holds no lock, and another reads
     ∷ (answers pessimistic p7ThenRead gives 0 ∷ 0 ∷ 0 ∷ 0 ∷ 0 ∷ 0 ∷ 0 ∷ 1 ∷ 0 ∷ 0 ∷ 0 ∷ 0 ∷ 1 ∷ 0 ∷ 3 ∷ 0 ∷ 0 ∷ 0 ∷ [])
@@ -122,11 +123,13 @@ pessimisticTraces =
     ∷ (answers (twoCompleted Pessimistic (locksWith 1 6) (busy 2 6 1 1 0)) (does 0 Read ∷ []) gives 19 ∷ [])
     ∷ (stands (twoCompleted Pessimistic (locksWith 1 6) (busy 2 6 1 1 0)) (does 0 Read ∷ []) 0 6 gives 2 ∷ locksWith 1 6 ++ 0 ∷ writerNumbers (busy 2 6 1 1 0))
     ∷ (eachAnswer (twoCompleted Pessimistic (locksWith 1 6) (busy 3 6 1 1 0)) gives 14 ∷ 14 ∷ 14 ∷ 0 ∷ 14 ∷ 14 ∷ 14 ∷ 6 ∷ [])
-    ∷ (stands (twoCompleted Pessimistic (locksWith 1 6) (busy 4 6 1 1 0)) (does 0 Index ∷ []) 0 6 gives 2 ∷ locksWith 1 6 ++ 2 ∷ writerNumbers (maker (busy 6 6 1 1 0)))
+    ∷ (stands (twoCompleted Pessimistic (locksWith 1 6) (busy 4 6 1 1 0)) (does 0 Index ∷ []) 0 6
+    gives 2 ∷ locksWith 1 6 ++ 2 ∷ writerNumbers (maker (busy 6 6 1 1 0)))
     ∷ (stands (twoCompleted Pessimistic (locksWith 1 6) (busy 6 6 1 1 0)) (does 0 Commit ∷ []) 0 6 gives 2 ∷ locksWith 1 6 ++ 0 ∷ readyNumbers)
     ∷ (stands (twoCompleted Pessimistic (locksWith 1 6) (busy 4 6 1 1 0)) (does 0 Abort ∷ []) 0 6 gives 2 ∷ locksWith 1 6 ++ 0 ∷ readyNumbers)
     -- it is another group's: it is not asked for; it is the writer's own already: it reads, and is too late, and then the lock is free
-    ∷ (stands (twoCompleted Pessimistic (locksWith 0 6) (busy 2 6 3 1 0)) (does 0 Read ∷ []) 0 6 gives 2 ∷ (6 ∷ 0 ∷ 0 ∷ 1 ∷ 0 ∷ 0 ∷ 0 ∷ 0 ∷ []) ++ 0 ∷ writerNumbers (busy 3 6 3 1 0))
+    ∷ (stands (twoCompleted Pessimistic (locksWith 0 6) (busy 2 6 3 1 0)) (does 0 Read ∷ []) 0 6
+    gives 2 ∷ (6 ∷ 0 ∷ 0 ∷ 1 ∷ 0 ∷ 0 ∷ 0 ∷ 0 ∷ []) ++ 0 ∷ writerNumbers (busy 3 6 3 1 0))
     ∷ (stands (twoCompleted Pessimistic (locksWith 3 1) (busy 2 6 3 1 0)) (does 0 Read ∷ []) 0 6 gives 2 ∷ locksWith 3 1 ++ 0 ∷ writerNumbers (busy 3 6 3 1 0))
     ∷ (answers (twoCompleted Pessimistic (locksWith 1 1) (busy 2 6 1 1 0)) (does 0 Read ∷ []) gives 3 ∷ [])
     ∷ (stands (twoCompleted Pessimistic (locksWith 1 1) (busy 2 6 1 1 0)) (does 0 Read ∷ []) 0 6 gives 2 ∷ locksWith 1 0 ++ 0 ∷ readyNumbers)

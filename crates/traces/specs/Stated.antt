@@ -4,13 +4,13 @@ use mathlib.Core.List.{List, [], _∷_}
 use lib.ListN.{replicate, set}
 use Rattle.model.specs.Limits.{groups}
 
--- no ground of 17: the step gives 10, the read 12, the scan 31, and the instant is completed in group 7
+-- no ground of 17: the step gives 10, the read 12, the scan 31, the instant is completed in group 7, and the clean gives 34
 abbrev pub inRangeNumbers : List ℕ
-inRangeNumbers = 10 ∷ 12 ∷ 31 ∷ 0 ∷ 99 ∷ 99 ∷ 0 ∷ 3 ∷ 7 ∷ []
+inRangeNumbers = 10 ∷ 12 ∷ 31 ∷ 0 ∷ 99 ∷ 99 ∷ 0 ∷ 3 ∷ 7 ∷ 34 ∷ []
 
--- a ground of 17: all four calls give it, and the scan stores nothing
+-- a ground of 17: all five calls give it, and the scan stores nothing
 abbrev pub outOfRangeNumbers : List ℕ
-outOfRangeNumbers = 17 ∷ 17 ∷ 17 ∷ 0 ∷ 99 ∷ 99 ∷ 17 ∷ []
+outOfRangeNumbers = 17 ∷ 17 ∷ 17 ∷ 0 ∷ 99 ∷ 99 ∷ 17 ∷ 17 ∷ []
 
 -- the locks where the one at a place is n, which is w + 1 for writer w and 0 for nobody, and the others are free
 abbrev pub locksWith : ℕ → ℕ → List ℕ

@@ -22,7 +22,7 @@ pessimistic = fresh Pessimistic
 
 -- a table with all its numbers, in the pessimistic mode
 abbrev pub inPessimistic : State → State
-inPessimistic st = record { mode = Pessimistic; shared = st .shared; writers = st .writers }
+inPessimistic st = record { mode = Pessimistic; horizon = st .horizon; shared = st .shared; writers = st .writers }
 
 -- what writers share, with one row more, of key k and value v, in the slice of file group g and timestamp n
 abbrev pub withRow : ℕ → ℕ → ℕ → ℕ → Shared → Shared
@@ -50,11 +50,15 @@ lastCompleted = replicate 127 requested ++ completed 7 ∷ []
 
 -- an optimistic table whose writers are ready
 abbrev pub table : Shared → State
-table s = record { mode = Optimistic; shared = s; writers = replicate writers ready }
+table s = record { mode = Optimistic; horizon = 0; shared = s; writers = replicate writers ready }
+
+-- a table with another horizon
+abbrev pub withHorizon : State → ℕ → State
+withHorizon st c = record { mode = st .mode; horizon = c; shared = st .shared; writers = st .writers }
 
 -- a table whose writer w is x
 abbrev pub withWriter : State → ℕ → Writer → State
-withWriter st w x = record { mode = st .mode; shared = st .shared; writers = set (st .writers) w x }
+withWriter st w x = record { mode = st .mode; horizon = st .horizon; shared = st .shared; writers = set (st .writers) w x }
 
 -- a writer with a put in progress, with one of 55, and with a remove
 abbrev pub putting : ℕ → ℕ → ℕ → ℕ → ℕ → ℕ → Writer
@@ -118,6 +122,7 @@ abbrev pub twoCompleted : Mode → List ℕ → Writer → State
 twoCompleted mode locks x =
     record {
       mode = mode;
+      horizon = 0;
       shared = withEntry (withLocks (withInstants (completed 0 ∷ completed 1 ∷ [])) locks) 5 4;
       writers = set (replicate writers ready) 0 x;
     }
@@ -132,15 +137,29 @@ ownLock = twoCompleted Optimistic (tableLock 1)
 abbrev pub unlocked : Writer → State
 unlocked = twoCompleted Optimistic (tableLock 0)
 
--- n timestamps are issued, and every other number is the largest in range; one row is shown at timestamp 1
+-- n timestamps are issued, and every other number is the largest in range; one row is shown at timestamp n
 abbrev pub atLargest : ℕ → State
 atLargest n =
     record {
       mode = Optimistic;
-      shared = withRow 7 1 0 largestNumber (withIndex (withLocks (withInstants (replicate n (completed 7))) (replicate 8 16)) (replicate 32 8));
+      horizon = n;
+      shared = withRow 7 n 0 largestNumber (withIndex (withLocks (withInstants (replicate n (completed 7))) (replicate 8 16)) (replicate 32 8));
       writers = replicate writers (maker (putting largestNumber 6 31 7 n n));
     }
 
 -- the same, with something else in what writers share, or in one writer
 abbrev pub atLargestBut : ℕ → (Shared → Shared) → State
-atLargestBut n change = record { mode = Optimistic; shared = change (atLargest n .shared); writers = atLargest n .writers }
+atLargestBut n change = record { mode = Optimistic; horizon = n; shared = change (atLargest n .shared); writers = atLargest n .writers }
+
+-- eight instants, six of them completed: 1 and 7 in group 0, 2, 4 and 6 in group 1, 5 in group 3; 3 is inflight in group 0, 8 requested. Each timestamp
+-- has a row of key 5, 8 in group 1; group 1's slice of 2 has its first row and its last too, and rows stand right before and behind it, in groups 0 and 2
+abbrev pub cleanable : State
+cleanable =
+    table
+    (withRow 0 1 5 11 (withRow 1 2 5 12 (withRow 0 3 5 13 (withRow 1 4 5 14 (withRow 3 5 5 15 (withRow 1 6 5 16 (withRow 0 7 5 17 (withRow 1 8 5 18
+    (withRow 1 2 0 20 (withRow 1 2 31 21 (withRow 0 2 31 22 (withRow 2 2 0 23
+    (withInstants (completed 0 ∷ completed 1 ∷ inflight 0 ∷ completed 1 ∷ completed 3 ∷ completed 1 ∷ completed 0 ∷ requested ∷ []))))))))))))))
+
+-- the same, where a writer at a phase, in a file group, has a base
+abbrev pub withBase : ℕ → ℕ → ℕ → ℕ → State
+withBase w phase group base = withWriter cleanable w (busy phase 5 group 8 base)

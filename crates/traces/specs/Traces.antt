@@ -2,10 +2,10 @@
 -- writers and timestamps of document 02, Q-6, and the numbers of Q-8; and cases for what no law of the whole table says: the stops of numbers and
 -- records, logs of the old rule, the log writer's refusals, histories, instants, the grounds of 17 one by one, the refusals in their order, the erased
 -- word (document 02, Q-3), the search of the check and its count (Q-2), index entries that are taken out again (Q-4), pessimistic tables (Q-9, in
--- Pessimistic.antt), tables that no run reaches. The lists of steps are in Stories.antt, the tables in Tables.antt, what several
--- cases state in Stated.antt.
+-- Pessimistic.antt), cleaned tables (Q-13, in Cleaning.antt), tables that no run reaches. The lists of steps are in Stories.antt, the tables in
+-- Tables.antt, what several cases state in Stated.antt.
 use Prim.Native.Nat.{_-_}
-use mathlib.Core.Path.{_≡_, refl}
+use mathlib.Core.Path.{_≡_, refl, ap, _∙_}
 use mathlib.Core.List.{List, [], _∷_, _++_, flatten, map}
 use lib.ListN.{replicate, take}
 use Rattle.leb128.specs.Coding.{encodedIn, encoded, decodedIn, decodedAt, decodedNumbers}
@@ -21,19 +21,21 @@ use Rattle.model.specs.Rules.{ruled, act, stepTested, step}
 use Rattle.model.specs.Machine.{answersFrom}
 use Rattle.model.specs.Snapshot.{rowsAt, numbers, scan, pointRead, instantState, instantAt}
 use Rattle.model.specs.History.{empty, startRecorded, commitRecorded, endRecorded, recorded}
-use Rattle.model.specs.Isolation.{storedBy, executed, next}
+use Rattle.model.specs.Cleaning.{drops, swept, basesKept, clean}
+use Rattle.model.specs.Isolation.{eventsOf, next, storedBy}
 use Rattle.model.specs.declared.Mode.the-variants.{Optimistic}
 use Rattle.model.specs.declared.Operation.the-variants.{Put, Remove}
 use Rattle.model.specs.declared.Action.the-variants.{Start, LookUp, Read, Write, Index, Check, Commit, Abort}
 use Rattle.metadata.specs.Largest.{largest}
 use Rattle.metadata.specs.Search.{upTo, newestAbove}
 use Rattle.steplog.specs.Records.{encodedStep, ofKind, argumentsBy, recordBy, recordNumbers, logReadFrom, logRead, oldLogRead}
-use Rattle.steplog.specs.Writing.{logWritten}
-use Rattle.run.specs.Runs.{ofLog, ofList, runFrom, runOf}
+use Rattle.logwriter.specs.Writing.{logWritten}
+use Rattle.run.specs.Runs.{ofLog, ofList, runFrom}
 use Rattle.rules.specs.Parts.{actOnParts}
+use Rattle.traces.specs.Ways.{testedOnce, ways-same}
 use Rattle.traces.specs.Cases.{encode, decode, readRecord, readLog, written, ran, answers, eachAnswer, scanned, read, stands}
 use Rattle.traces.specs.Cases.{onParts, place, rows, instants, history, stored, searched, judged}
-use Rattle.traces.specs.Cases.{writerNumbers, pendingOperation, committedOperation, does, result, Trace, _gives_}
+use Rattle.traces.specs.Cases.{writerNumbers, pendingOperation, committedOperation, does, resultBy, result, Trace, _gives_}
 use Rattle.traces.specs.Stories.{restOf, whole, p5, p6, p7, p8, p10, startAndAbort, aborts, beside, putAndRemove, secondPut, givenUpAfter}
 use Rattle.traces.specs.Stories.{proposes, entryBefore, failsLater, lookedUp, removesIndexed, everyKind, everyKindLog, printedLog, largestNumber}
 use Rattle.traces.specs.Stories.{largestCode, longestStart, longestLog, startErased, startErasedLog, oldLargestLog, pastOldLog, wideValue}
@@ -43,6 +45,7 @@ use Rattle.traces.specs.Tables.{removing, maker, atPhase, erasedAtPhase,
 use Rattle.traces.specs.Tables.{staleRows, refusing, holding, ownLock, unlocked, atLargest, atLargestBut}
 use Rattle.traces.specs.Stated.{inRangeNumbers, outOfRangeNumbers, tableLock, readyNumbers, idle, isNone, isRequested, isInflight, isCompleted}
 use Rattle.traces.specs.Pessimistic.{pessimisticTraces}
+use Rattle.traces.specs.Cleaning.{cleaningTraces}
 
 pub traces : List Trace
 traces =
@@ -129,23 +132,24 @@ traces =
     ∷ (read optimistic p10 4 257 gives 12 ∷ [])
     ∷ (read optimistic p10 4 4294967298 gives 12 ∷ [])
     -- histories: operations that ended with 5, 4, 3 and 2 and by an abort are not in progress; one in progress; the group is the table's
-    ∷ (history Optimistic (p5 0 1) gives 2 ∷ idle writers ++ committedOperation 1 0 (Put 0 10 0))
-    ∷ (history Optimistic p6 gives 2 ∷ idle writers ++ committedOperation 1 0 (Put 1 10 0))
-    ∷ (history Optimistic p7 gives 3 ∷ idle writers ++ committedOperation 3 0 (Put 0 12 0) ++ committedOperation 1 0 (Put 0 10 0))
-    ∷ (history Optimistic p8 gives 1 ∷ idle writers)
-    ∷ (history Optimistic (startAndAbort 0) gives 1 ∷ idle writers)
-    ∷ (history Optimistic aborts gives 3 ∷ pendingOperation 3 (Put 1 11 6) ++ idle (writers - 1))
-    ∷ (history Optimistic p10
+    ∷ (history Optimistic (eventsOf (p5 0 1)) gives 2 ∷ idle writers ++ committedOperation 1 0 (Put 0 10 0))
+    ∷ (history Optimistic (eventsOf p6) gives 2 ∷ idle writers ++ committedOperation 1 0 (Put 1 10 0))
+    ∷ (history Optimistic (eventsOf p7) gives 3 ∷ idle writers ++ committedOperation 3 0 (Put 0 12 0) ++ committedOperation 1 0 (Put 0 10 0))
+    ∷ (history Optimistic (eventsOf p8) gives 1 ∷ idle writers)
+    ∷ (history Optimistic (eventsOf (startAndAbort 0)) gives 1 ∷ idle writers)
+    ∷ (history Optimistic (eventsOf aborts) gives 3 ∷ pendingOperation 3 (Put 1 11 6) ++ idle (writers - 1))
+    ∷ (history Optimistic (eventsOf p10)
     gives 4 ∷ pendingOperation 3 (Put 1 11 1) ++ idle (writers - 1)
     ++ committedOperation 4 2 (Put 2 21 2) ++ committedOperation 2 2 (Put 2 20 2) ++ committedOperation 1 1 (Put 1 10 1))
-    ∷ (history Optimistic beside gives 2 ∷ pendingOperation 1 (Put 0 10 0) ++ idle (writers - 1))
-    ∷ (history Optimistic putAndRemove gives 3 ∷ idle writers ++ committedOperation 3 1 (Remove 1) ++ committedOperation 2 1 (Put 1 11 5) ++ committedOperation 1 1 (Put 1 10 1))
+    ∷ (history Optimistic (eventsOf beside) gives 2 ∷ pendingOperation 1 (Put 0 10 0) ++ idle (writers - 1))
+    ∷ (history Optimistic (eventsOf putAndRemove)
+    gives 3 ∷ idle writers ++ committedOperation 3 1 (Remove 1) ++ committedOperation 2 1 (Put 1 11 5) ++ committedOperation 1 1 (Put 1 10 1))
     -- what write steps stored: nothing before them; the rows of the base with the key put; also where the operation ends
-    ∷ (stored Optimistic (take 10 secondPut) 2 5 gives 0 ∷ [])
-    ∷ (stored Optimistic (take 11 secondPut) 2 5 gives 1 ∷ 10 ∷ [])
-    ∷ (stored Optimistic secondPut 2 6 gives 1 ∷ 55 ∷ [])
-    ∷ (stored Optimistic (p5 0 1) 2 1 gives 1 ∷ 11 ∷ [])
-    ∷ (stored Optimistic (p5 0 1) 2 0 gives 0 ∷ [])
+    ∷ (stored Optimistic (eventsOf (take 10 secondPut)) 2 5 gives 0 ∷ [])
+    ∷ (stored Optimistic (eventsOf (take 11 secondPut)) 2 5 gives 1 ∷ 10 ∷ [])
+    ∷ (stored Optimistic (eventsOf secondPut) 2 6 gives 1 ∷ 55 ∷ [])
+    ∷ (stored Optimistic (eventsOf (p5 0 1)) 2 1 gives 1 ∷ 11 ∷ [])
+    ∷ (stored Optimistic (eventsOf (p5 0 1)) 2 0 gives 0 ∷ [])
     -- instants: none at 0 and above the last; inflight after an ending with 5 and 4, requested after one with 3 and 2; as they are after an abort
     ∷ (instants optimistic (p5 0 1) (1 ∷ 2 ∷ []) gives isCompleted 0 ++ isInflight 0)
     ∷ (instants optimistic p6 (1 ∷ 2 ∷ []) gives isCompleted 0 ++ isInflight 1)
@@ -232,7 +236,7 @@ traces =
     ∷ (answers optimistic (lookedUp (Remove 1) ++ does 1 Index ∷ take 5 (whole 2 (Put 2 20 0)))
     gives 0 ∷ 0 ∷ 0 ∷ 0 ∷ 0 ∷ 0 ∷ 0 ∷ 0 ∷ 0 ∷ 6 ∷ 2 ∷ 0 ∷ 0 ∷ 0 ∷ 0 ∷ 0 ∷ [])
     ∷ (stands optimistic (lookedUp (Remove 1) ++ does 1 Index ∷ []) 1 1 gives 2 ∷ tableLock 0 ++ 0 ∷ readyNumbers)
-    ∷ (history Optimistic (lookedUp (Remove 1) ++ does 1 Index ∷ []) gives 2 ∷ idle writers)
+    ∷ (history Optimistic (eventsOf (lookedUp (Remove 1) ++ does 1 Index ∷ [])) gives 2 ∷ idle writers)
     -- a put that looked it up keeps the group that it found, makes the entry again and commits there
     ∷ (stands optimistic (lookedUp (Put 1 11 1) ++ does 1 Index ∷ []) 1 1 gives 2 ∷ tableLock 2 ++ 1 ∷ writerNumbers (maker (putting 11 5 1 0 2 0)))
     ∷ (instants optimistic (lookedUp (Put 1 11 1) ++ does 1 Index ∷ does 1 Check ∷ does 1 Commit ∷ []) (2 ∷ []) gives isCompleted 0)
@@ -282,7 +286,8 @@ traces =
     -- its refusal changes nothing in the table or in the history, for a ready writer and for one at phase 1
     ∷ (stands optimistic (startErased 0 0 0 ∷ []) 0 0 gives 0 ∷ tableLock 0 ++ 0 ∷ readyNumbers)
     ∷ (stands optimistic (does 0 (Start (Put 5 55 3)) ∷ startErased 0 0 0 ∷ []) 0 5 gives 1 ∷ tableLock 0 ++ 0 ∷ writerNumbers (busy 1 5 3 1 0))
-    ∷ (history Optimistic (does 0 (Start (Put 5 55 3)) ∷ startErased 0 0 0 ∷ startErased 1 0 0 ∷ []) gives 1 ∷ pendingOperation 1 (Put 5 55 3) ++ idle (writers - 1))
+    ∷ (history Optimistic (eventsOf (does 0 (Start (Put 5 55 3)) ∷ startErased 0 0 0 ∷ startErased 1 0 0 ∷ []))
+    gives 1 ∷ pendingOperation 1 (Put 5 55 3) ++ idle (writers - 1))
     -- a log codes it and reads it
     ∷ (written (startErased 0 1 2 ∷ []) 15 0 gives 0 ∷ 14 ∷ startErasedLog ++ 99 ∷ [])
     ∷ (readRecord startErasedLog 0 gives 0 ∷ 14 ∷ 0 ∷ 1 ∷ 1 ∷ largestNumber ∷ 2 ∷ [])
@@ -367,13 +372,19 @@ traces =
     ∷ (judged (atLargestBut 128 (λ s. withInstant s 128 (completed 8))) gives outOfRangeNumbers)
     ∷ (judged (atLargestBut 20 (λ s. withInstant s 21 requested)) gives outOfRangeNumbers)
     ∷ (judged (atLargestBut 20 (λ s. withInstant s 128 requested)) gives outOfRangeNumbers)
-    ∷ pessimisticTraces
+    ∷ pessimisticTraces ++ cleaningTraces
 
-pub traces-hold : map (λ (t : Trace). result (t .case)) traces ≡ map (λ (t : Trace). t .stated) traces
-unfolding traces pessimisticTraces result actOnParts encoded encodedIn decodedAt decodedIn decodedNumbers answersFrom executed next step stepTested ruled act
+-- the table, computed with one range test of steps for each list
+computed : map (λ (t : Trace). resultBy testedOnce (t .case)) traces ≡ map (λ (t : Trace). t .stated) traces
+unfolding traces pessimisticTraces cleaningTraces resultBy actOnParts encoded encodedIn decodedAt decodedIn decodedNumbers answersFrom step stepTested ruled act
     start lookUp readBase writeSlice enterIndex checkConflict commit abort inRange eachBelow writersInRange indexInRange instantsInRange noneAbove
     locksInRange guard lockPhase afterIndex mayCheck
     newest largest upTo newestAbove cell copied sliced fresh scan rowsAt numbers listBelow pointRead instantState instantAt
+    drops swept basesKept clean next
     upd empty startRecorded commitRecorded endRecorded recorded storedBy
-    encodedStep ofKind argumentsBy recordBy recordNumbers logReadFrom logRead logWritten pasted flatten runFrom runOf
-traces-hold = refl
+    encodedStep ofKind argumentsBy recordBy recordNumbers logReadFrom logRead logWritten pasted flatten runFrom
+computed = refl
+
+-- the one claim
+pub traces-hold : map (λ (t : Trace). result (t .case)) traces ≡ map (λ (t : Trace). t .stated) traces
+traces-hold = ap (λ way. map (λ (t : Trace). resultBy way (t .case)) traces) ways-same ∙ computed

@@ -4,7 +4,7 @@
 --     scan-lists         and a scan with room for one of each key gives them all
 --     run-fits           the text of the run has room in any buffer of maxText bytes
 --     run-printed        and it is what the definition gives
-use Prim.Native.Nat.{ℕ, _*_, _≤_}
+use Prim.Native.Nat.{ℕ, _*_, _≤_, zero-le}
 use native.Mathlib.Omega.{arith}
 use mathlib.Core.List.{List}
 use mathlib.Core.Option.{Option, none, some}
@@ -15,7 +15,7 @@ use Rattle.model.specs.Limits.{keys}
 use Rattle.model.specs.State.{State, fresh}
 use Rattle.model.specs.Snapshot.{Row, rowsAt, Listed, listed, scan}
 use Rattle.model.specs.History.{Committed, History, newestOn, putRow, rowOfNewest, listing}
-use Rattle.model.specs.Isolation.{after}
+use Rattle.model.specs.Isolation.{Event, eventsOf, after, horizonAfter}
 use Rattle.model.specs.declared.Mode.{Mode}
 use Rattle.model.specs.declared.Operation.{Operation}
 use Rattle.model.specs.declared.Operation.the-variants.{Put, Remove}
@@ -23,6 +23,7 @@ use Rattle.model.specs.declared.Step.{Step}
 use Rattle.common.proofs.ListBelow.{length-below}
 use Rattle.model.proofs.Listing.{rows-listed}
 use Rattle.model.proofs.Isolation.{reached, isolated}
+use Rattle.model.proofs.Corollaries.{steps-horizon}
 use Rattle.common.specs.Pasting.{PastedTo}
 use Rattle.run.specs.Runs.{ofLog, takenFrom, Run, runOf}
 use Rattle.run.proofs.Taken.{count-fits, answers-length}
@@ -55,6 +56,13 @@ module _ (mode : Mode) (log answers : List ℕ) where
   abbrev steps : List Step
   steps = takenFrom (ofLog log) (length answers) 0 .steps
 
+  abbrev events : List Event
+  events = eventsOf steps
+
+  -- no timestamp is below the horizon
+  not-cleaned : (t : ℕ) → horizonAfter mode events ≤ t
+  not-cleaned t = rw (steps-horizon mode steps) zero-le
+
   -- each answer has its place, and the answers keep their length
   count-within : run .count ≤ length answers
   unfolding runOf
@@ -64,16 +72,16 @@ module _ (mode : Mode) (log answers : List ℕ) where
   unfolding runOf
   same-places = answers-length _ (ofLog log) (fresh mode) answers
 
-  pub rows-of-history : (t : ℕ) → rowsAt (run .state .shared) t ≡ listing (after mode steps .history) t
-  rows-of-history t = rw (run-state mode answers (ofLog log)) (rows-listed (after mode steps) (reached mode steps) t)
+  pub rows-of-history : (t : ℕ) → rowsAt (run .state .shared) t ≡ listing (after mode events .history) t
+  rows-of-history t = rw (run-state mode answers (ofLog log)) (rows-listed (after mode events) (reached mode events) t (not-cleaned t))
 
   pub rows-within : (t : ℕ) → length (rowsAt (run .state .shared) t) ≤ keys
-  rows-within t = rw (rows-of-history t) (listing-within (after mode steps .history) t)
+  rows-within t = rw (rows-of-history t) (listing-within (after mode events .history) t)
 
   pub scan-lists : (t : ℕ) (buffer : List ℕ) → 3 * keys ≤ length buffer → scan (run .state) t buffer ≡ listed (rowsAt (run .state .shared) t) buffer
   scan-lists t buffer room =
       rw (rows-of-history t, run-state mode answers (ofLog log))
-      (isolated mode steps .lists t buffer (omega (arith, listing-within (after mode steps .history) t)))
+      (isolated mode events .lists t buffer (not-cleaned t) (omega (arith, listing-within (after mode events .history) t)))
 
 -- ---- the run and the scan
 -- the answers and the numbers of rows, as they are lent

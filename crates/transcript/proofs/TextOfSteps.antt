@@ -13,7 +13,7 @@ use Rattle.model.specs.State.{State, fresh}
 use Rattle.model.specs.Machine.{answersTo}
 use Rattle.model.specs.Snapshot.{rowsAt}
 use Rattle.model.specs.History.{listing}
-use Rattle.model.specs.Isolation.{after}
+use Rattle.model.specs.Isolation.{Event, eventsOf, after}
 use Rattle.model.specs.declared.Mode.{Mode}
 use Rattle.model.proofs.Isolation.{reached}
 use Rattle.steplog.specs.Records.{usedUp, encodedSteps, LogRead, logRead}
@@ -35,12 +35,14 @@ module _ (mode : Mode) (log answers : List ℕ) where
   abbrev consumed : LogRead
   consumed = takenFrom (ofLog log) (length answers) 0
 
-  last-issued : run .state .shared .last ≡ after mode (consumed .steps) .history .last
-  last-issued = ap (λ (st : State). st .shared .last) (run-state mode answers (ofLog log)) ∙ sym (reached mode (consumed .steps) .invariant .last)
+  abbrev events : List Event
+  events = eventsOf (consumed .steps)
 
-  rows-listed : rowsAt (run .state .shared) (run .state .shared .last)
-      ≡ listing (after mode (consumed .steps) .history) (after mode (consumed .steps) .history .last)
-  rows-listed = rows-of-history mode log answers _ ∙ ap (listing (after mode (consumed .steps) .history)) last-issued
+  last-issued : run .state .shared .last ≡ after mode events .history .last
+  last-issued = ap (λ (st : State). st .shared .last) (run-state mode answers (ofLog log)) ∙ sym (reached mode events .invariant .last)
+
+  rows-listed : rowsAt (run .state .shared) (run .state .shared .last) ≡ listing (after mode events .history) (after mode events .history .last)
+  rows-listed = rows-of-history mode log answers _ ∙ ap (listing (after mode events .history)) last-issued
 
   answers-given : take (run .count) (run .answers) ≡ answersTo mode (consumed .steps)
   unfolding runOf

@@ -10,7 +10,7 @@ use Rattle.model.specs.State.{State, fresh}
 use Rattle.model.specs.Machine.{answersTo}
 use Rattle.model.specs.Snapshot.{rowsAt}
 use Rattle.model.specs.History.{listing}
-use Rattle.model.specs.Isolation.{after}
+use Rattle.model.specs.Isolation.{eventsOf, after}
 use Rattle.model.specs.declared.Mode.{Mode}
 use Rattle.steplog.specs.Records.{LogRead}
 use Rattle.common.specs.Pasting.{pasted}
@@ -49,4 +49,4 @@ printed mode log buffer =
 abbrev pub stepsText : Mode → LogRead → List ℕ
 stepsText mode t =
     answerLines (answersTo mode (t .steps)) ++ stopLine (t .stop) (t .offset)
-    ++ rowLines (listing (after mode (t .steps) .history) (after mode (t .steps) .history .last))
+    ++ rowLines (listing (after mode (eventsOf (t .steps)) .history) (after mode (eventsOf (t .steps)) .history .last))

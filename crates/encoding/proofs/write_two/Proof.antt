@@ -10,9 +10,10 @@ use contract.Lifetimes.{toks}
 use mir.Syntax.{tyArray}
 use denote.Array.{Array}
 use Rattle.model.proofs.Step as S
-use Rattle.steplog.specs.declared.writing.Written.{Written}
-use Rattle.steplog.specs.Writing.{logWritten, LogWritten}
-use Rattle.steplog.proofs.PlainTypes.{step-laws, written-laws}
+use Rattle.logwriter.specs.declared.Written.{Written}
+use Rattle.logwriter.specs.Writing.{logWritten, LogWritten}
+use Rattle.steplog.proofs.PlainTypes.{step-laws}
+use Rattle.logwriter.proofs.WrittenLaws.{written-laws}
 use Rattle.walks.proofs.Walks.{URA, named, w64, Val, vint, vptr, SProp, ent, emp, via, fst∗, id⊢, Lft, Share, ftrue, flft, Memory, Routine, Heap, Env, WpFn}
 use Rattle.walks.proofs.Walks.{Tables, Atoms, Fun, givenOf, tablesOf, Given, Item, ‵, raw, _⊛_, ⋆, runs, atRet, Sq, _$_, _∵_, !, qed, by, move, keep, drop}
 use Rattle.walks.proofs.Walks.{use1, split, join, fsplit, fjoin, feqL, suffices, agg, whole, sub, look-in, look, init, stop, hop, fld, from, lit, addr, of-opd}
@@ -22,8 +23,8 @@ use Rattle.walks.proofs.Walks.{walkOf, goes-none, goes-slice, ends-at, yes, Pla
 use Rattle.walks.proofs.Walks.{sets, lands-in, tablesAt, met-by, of-array}
 use Rattle.walks.proofs.Calling.{Callee, calls-on, calls-plain, owned-all, told, token-in}
 use Rattle.walks.proofs.Lending.{handed, hands-back, refTo, renamed, lends-again, comes-back, lends-array, array-back}
-use Rattle.steplog.proofs.writing.Written as R
-use Rattle.steplog.proofs.write_log as write-log
+use Rattle.logwriter.proofs.Written as R
+use Rattle.logwriter.proofs.write_log as write-log
 use Rattle.encoding.specs.Steps.{putAndLookUp}
 use Rattle.encoding.proofs.put_and_look_up as steps
 use Rattle.encoding.proofs.write_two as f
@@ -179,5 +180,5 @@ write-two-spec 𝓤 H 𝓜 𝓖 𝓡 =
     (λ κs. (mut-slice-tells (named 0) (κs .0) u8, (uint-tells w64, tt)))
     (λ κs qs bounds a g are. via 𝓤 _ (fst∗ 𝓤 _ (emp 𝓤)) (walk 𝓤 H (𝓖 .A) (givenOf 𝓤 H 𝓜 𝓖) (𝓜 .mem) (𝓡 .run) (tablesAt 𝓤 H 𝓜 𝓡 f.Code.env)
     (cited 𝓤 H _ 𝓜 𝓡 f.Code.env steps.Symbol.name _ f.Code.calls-encoding·put-and-look-up (steps.Met.met 𝓤 H 𝓜 𝓖 𝓡))
-    (cited 𝓤 H _ 𝓜 𝓡 f.Code.env write-log.Symbol.name _ f.Code.calls-steplog·write-log (write-log.Met.met 𝓤 H 𝓜 𝓖 𝓡))
+    (cited 𝓤 H _ 𝓜 𝓡 f.Code.env write-log.Symbol.name _ f.Code.calls-logwriter·write-log (write-log.Met.met 𝓤 H 𝓜 𝓖 𝓡))
     (κs .0) (qs .0) (a .0) (a .1 .0) (are .0 .0 .1) (are .1 .0 .1)))

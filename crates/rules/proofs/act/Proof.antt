@@ -7,7 +7,7 @@ use borrow.Author.Tests.{le-leb, lt-leb, not-false}
 use Rattle.model.specs.Rules.{act}
 use Rattle.rules.specs.Parts.{actOnParts}
 use Rattle.rules.proofs.Bounds.{actor-bounds}
-use Rattle.rules.proofs.Verdicts.{carries}
+use Rattle.verdicts.proofs.Verdicts.{carries}
 use borrow.Author.Needs.{needs}
 use Rattle.rules.proofs.act.Statement.{statement}
 use Rattle.rules.proofs.act.Tie as tie
@@ -37,8 +37,7 @@ decide-requires c κs = let t = c .before .before .before .before .before .befor
     (omega arith, actor-bounds (now (a .args .last)) (a .args .x) (sym (t .before .actor-in-range .ensures) ∙ not-false _ (t .if3 .left)))
 
 carry-out-requires : tie.Need-carry-out-requires
-carry-out-requires c κs = let t = c .before .before .before in
-    decide-requires t (t .before .before .before .before .before .before .before .before .before .before .before .before .before .κs)
+carry-out-requires c κs = search needs
 
 returns-4 : tie.Need-returns-4
 unfolding actOnParts act

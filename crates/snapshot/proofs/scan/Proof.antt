@@ -1,17 +1,19 @@
 -- `scan` meets its contract: each part is what the callees promise, put together by proofs/Snapshots.
 use native.Mathlib.Omega.{arith}
 use mathlib.Core.List.{[]}
-use mathlib.Core.Path.{sym, _∙_}
+use mathlib.Core.Path.{_∙_}
 use borrow.Author.Needs.{needs}
-use borrow.Author.Tests.{not-true, not-false}
 use Rattle.model.specs.State.{stateOf}
 use Rattle.snapshot.proofs.Counting.{counted-le}
-use Rattle.snapshot.proofs.Snapshots.{in-range-coded, scan-refused, scan-full, all-fit, scan-done}
+use Rattle.snapshot.proofs.Snapshots.{in-range-coded, not-refused, scan-refused, scan-full, all-fit, scan-done}
 use Rattle.snapshot.proofs.scan.Statement.{statement}
 use Rattle.snapshot.proofs.scan.Tie as tie
 
 in-range-requires : tie.Need-in-range-requires
 in-range-requires c κs = search needs
+
+refusal-of-requires : tie.Need-refusal-of-requires
+refusal-of-requires c κs = search needs
 
 refused-requires : tie.Need-refused-requires
 refused-requires c κs = search needs
@@ -23,12 +25,14 @@ returns : tie.Need-returns
 returns c =
     let refused = c .before .before in
     let tested = refused .before .before in
-    refused .refused .ensures ∙ scan-refused _ _ _ (sym (tested .before .in-range .ensures _ _) ∙ not-true _ (tested .if1 .taken))
+    refused .refused .ensures
+    ∙ scan-refused _ _ (tested .before .before .in-range .ensures _ _) (tested .before .refusal-of .ensures) _ (tested .if1 .taken)
 
 newest-of-groups-requires : tie.Need-newest-of-groups-requires
 newest-of-groups-requires c κs =
     let tested = c .before in
-    in-range-coded (stateOf (tested .before .before .before .args .t) [] []) (sym (tested .before .in-range .ensures _ _) ∙ not-false _ (tested .if1 .left))
+    let st = stateOf (tested .before .before .before .before .args .t) [] [] in
+    in-range-coded st (not-refused st _ (tested .before .before .in-range .ensures _ _) (tested .before .refusal-of .ensures) (tested .if1 .left) .fine)
 
 count-slices-requires : tie.Need-count-slices-requires
 count-slices-requires c κs = search needs
@@ -53,9 +57,10 @@ returns-2 c =
     let counted = summed .before .before in
     let newest = counted .before in
     let tested = newest .before .before in
+    let readable = not-refused _ _ (tested .before .before .in-range .ensures _ _) (tested .before .refusal-of .ensures) (tested .if1 .left) in
     refused .refused2 .ensures
     ∙ scan-full _ _ (newest .newest-of-groups .ensures) (counted .count-slices .ensures) (summed .total .ensures .0)
-    (sym (tested .before .in-range .ensures _ _) ∙ not-false _ (tested .if1 .left)) _ (room .if2 .taken)
+    readable _ (room .if2 .taken)
 
 store-requires : tie.Need-store-requires
 store-requires c κs =
@@ -63,7 +68,7 @@ store-requires c κs =
     let summed = room .before in
     let counted = summed .before .before in
     let newest = counted .before in
-    let start = newest .before .before .before .before .before in
+    let start = newest .before .before .before .before .before .before in
     all-fit (stateOf (start .args .t) _ _) _ (newest .newest-of-groups .ensures) (counted .count-slices .ensures) (summed .total .ensures .0)
     (room .if2 .left)
 
@@ -77,14 +82,16 @@ returns-3 c =
     let counted = summed .before .before in
     let newest = counted .before in
     let tested = newest .before .before in
+    let readable = not-refused _ _ (tested .before .before .in-range .ensures _ _) (tested .before .refusal-of .ensures) (tested .if1 .left) in
     scan-done _ _ (newest .newest-of-groups .ensures) (counted .count-slices .ensures) (summed .total .ensures .0)
-    (sym (tested .before .in-range .ensures _ _) ∙ not-false _ (tested .if1 .left)) _ (room .if2 .left) (c .before .before .store .ensures)
+    readable _ (room .if2 .left) (c .before .before .store .ensures)
 
 pub scan-spec : {M : Type 1} → statement M
 scan-spec =
     tie.close
     (tie.spec
     in-range-requires
+    refusal-of-requires
     refused-requires
     same-length
     returns

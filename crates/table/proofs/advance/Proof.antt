@@ -1,5 +1,5 @@
 -- `advance` meets its contract: a step on the parts of a table is a step of the table, by the law `parts-step`.
-use mathlib.Core.Path.{ap, _∙_}
+use mathlib.Core.Path.{refl, ap, _∙_}
 use denote.Ref.{now}
 use Rattle.model.specs.State.{stateOf}
 use Rattle.model.specs.Rules.{answered, updated}
@@ -40,7 +40,7 @@ returns c =
     let st = stateOf (a .args .t) (now (a .args .present)) (now (a .args .values)) in
     ap (answered _) (c .with-parts .ensures _ _)
     ∙ ap (updated st _) (c .before .before .act .ensures (st .shared))
-    ∙ rw (t .parts-in-range .ensures st, s .slot-of .ensures .is) (parts-step st _)
+    ∙ rw (t .parts-in-range .ensures st refl, s .slot-of .ensures .is) (parts-step st _)
 
 pub advance-spec : {M : Type 1} → statement M
 advance-spec =

@@ -16,16 +16,16 @@ use Rattle.metadata.proofs.range.parts_in_range.Statement.{statement}
 use Rattle.metadata.proofs.range.parts_in_range.Tie as tie
 
 abbrev Inv-loop : tie.InvT-loop
-Inv-loop last locks index timeline xs w₀ w = (w ≤ writers) × ((k : ℕ) → k < w → writerInRange last (getD xs k ready) ≡ true)
+Inv-loop horizon last locks index timeline xs w₀ w = (w ≤ writers) × ((k : ℕ) → k < w → writerInRange last (getD xs k ready) ≡ true)
 
 abbrev μ-loop : tie.MeasureT-loop
-μ-loop last locks index timeline xs w₀ w = writers - w
+μ-loop horizon last locks index timeline xs w₀ w = writers - w
 
 shared-in-range-requires : tie.Need-shared-in-range-requires Inv-loop μ-loop
 shared-in-range-requires c κs = search needs
 
 returns : tie.Need-returns Inv-loop μ-loop
-returns c = let t = c .before .shared-in-range in λ s. rw (t .ensures, not-true (t .result) (c .if1 .taken))
+returns c = let t = c .before .shared-in-range in λ s e. rw (t .ensures s _ e, not-true (t .result) (c .if1 .taken))
 
 loop-holds : tie.Need-loop-holds Inv-loop μ-loop
 loop-holds c = (search needs, below-none _)
@@ -44,8 +44,8 @@ unfolding writersInRange
 returns-2 c =
     let shared = c .before .before .before .before .before in
     let t = shared .before .shared-in-range in
-    λ s.
-    rw (t .ensures, not-false (t .result) (shared .if1 .left))
+    λ s e.
+    rw (t .ensures s _ e, not-false (t .result) (shared .if1 .left))
     (sym (below-stop _ writers _ (omega arith) (sym (c .before .writer-in-range .ensures) ∙ not-true _ (c .if2 .taken))))
 
 add-w : tie.Need-add-w Inv-loop μ-loop
@@ -64,7 +64,7 @@ returns-3 c =
     let z : c .before .loop .w ≡ writers = omega arith in
     let shared = c .before .before in
     let t = shared .before .shared-in-range in
-    λ s. rw (t .ensures, not-false (t .result) (shared .if1 .left)) (sym (below-all _ writers (rw z at (c .before .loop .inv .1))))
+    λ s e. rw (t .ensures s _ e, not-false (t .result) (shared .if1 .left)) (sym (below-all _ writers (rw z at (c .before .loop .inv .1))))
 
 pub parts-in-range-spec : {M : Type 1} → statement M
 parts-in-range-spec =

@@ -1,7 +1,7 @@
 -- `decide` meets its contract: each arm by the contract of the rule's function that it calls, at the whole shared part.
 use mathlib.Core.Path.{refl, sym, ap}
 use Rattle.model.specs.Rules.{ruled}
-use Rattle.rules.proofs.Verdicts.{at-state}
+use Rattle.verdicts.proofs.Verdicts.{at-state}
 use borrow.Author.Needs.{needs}
 use Rattle.rules.proofs.actions.decide.Statement.{statement}
 use Rattle.rules.proofs.actions.decide.Tie as tie
