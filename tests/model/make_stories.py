@@ -1,6 +1,6 @@
 #!/usr/bin/env python3
 """Write what the programs stories, calls, encoding, reading, tables,
-cleaned_tables, out_of_range and searches have to print.
+cleaned_tables, candidate_tables, out_of_range and searches have to print.
 
     python3 tests/model/make_stories.py CRATES
 
@@ -19,7 +19,8 @@ from collections.abc import Callable, Iterator, Sequence
 from dataclasses import replace
 from pathlib import Path
 
-from make_corpus import LONGEST
+from make_candidates import candidates_line, numbers_lines
+from make_corpus import LONGEST, operation_steps
 from table_model import (
     ERASED_WORD,
     GROUPS,
@@ -607,6 +608,7 @@ def calls() -> Iterator[str]:
         ("erased word", ERASED_WORD),
         ("last phase", max(Phase)),
         ("rows", MAX_TIMESTAMP * GROUPS * KEYS),
+        ("noted", WRITERS * WRITERS),
     ):
         yield f"{name}: {limit:d}"
 
@@ -1188,6 +1190,154 @@ def locks_set_by_hand() -> Iterator[str]:
                     yield locks_line(here)
 
 
+# --- The program candidate_tables --------------------------------------------
+
+
+def looking(
+    phase: int = Phase.WRITE, own: int = 5, last: int = 9, mode: Mode = Mode.OPTIMISTIC
+) -> Table:
+    """Timestamps 1, 2, 5, 6 and 9 are completed, 3 is inflight and 4 requested; writer
+    3 is at a phase, with a timestamp.
+    """
+    timeline = {at: completed(at % GROUPS) for at in (1, 2, 5, 6, 9)}
+    timeline |= {3: inflight(3), 4: Instant(State.REQUESTED)}
+    writer = Writer(phase, Put(9, 90, 7), own, 7, 0)
+    return table_of(last, timeline, {3: writer}, {}, mode=mode)
+
+
+def chosen(label: str, table: Table, writer: int = 3) -> str:
+    return f"{label}: {candidates_line(table, writer)}"
+
+
+def chosen_by_hand() -> Iterator[str]:
+    """The call of Q-12 on tables in range that no steps lead to."""
+    yield "== Noted timestamps that no steps give"
+    for label, noted in (
+        ("none", {}),
+        ("not completed", {0: 3, 1: 4, 2: 7}),
+        ("twice", {4: 2, 15: 2}),
+        ("its own", {3: 5}),
+        ("above its own", {13: 9, 14: 6, 15: 1}),
+        ("all of these", {0: 2, 1: 9, 2: 3, 3: 5, 4: 2, 5: 1, 14: 7, 15: 6}),
+    ):
+        table = looking()
+        for place, timestamp in noted.items():
+            table.noted[3][place] = timestamp
+        yield chosen(label, table)
+    table = looking()
+    table.noted[2][15] = table.noted[4][0] = 1
+    table.counts[4] = 128
+    yield chosen("of other writers", table)
+
+    yield "== Places and counts that no steps give"
+    for label, places in (
+        ("in order", {1: 1, 2: 2, 5: 3, 6: 4, 9: 5}),
+        ("against the order", {1: 5, 2: 4, 5: 3, 6: 2, 9: 1}),
+        ("equal", {1: 2, 2: 2, 5: 2, 6: 2, 9: 2}),
+        ("0, and of instants that are not completed", {1: 2, 3: 9, 4: 9, 8: 9, 100: 9}),
+        ("the largest", {1: 128, 9: 127}),
+    ):
+        yield f"-- {label}"
+        for count in (0, 1, 2, 127, 128):
+            table = looking()
+            table.places, table.counts[3] = places, count
+            yield chosen(f"count {count}", table)
+
+    yield "== The ends of the timeline"
+    timeline = {1: completed(0), 128: completed(7)}
+    writer = Writer(Phase.WRITE, Put(9, 90, 7), 127, 7, 0)
+    for label, places, noted in (
+        ("not noted", {1: 128, 128: 1}, 0),
+        ("noted", {}, 1),
+        ("noted above its own", {1: 1}, 128),
+    ):
+        table = table_of(128, timeline, {3: writer}, {}, places=places)
+        table.noted[3][15] = noted
+        yield chosen(label, table)
+    timeline = dict.fromkeys(range(1, 129), completed(0))
+    writer = Writer(Phase.COMMIT, Put(9, 90, 7), 1, 7, 0)
+    table = table_of(128, timeline, {3: writer}, {})
+    yield chosen("all but its own", table)
+    table.noted[3][0], table.places = 1, dict.fromkeys(range(1, 129), 1)
+    yield chosen("all", table)
+    table.counts[3] = 1
+    yield chosen("all, and none", table)
+
+    yield "== At each phase"
+    for phase in range(Phase.COMMIT + 1):
+        table = looking(phase)
+        table.places, table.noted[3][0] = {1: 1}, 2
+        yield chosen(f"phase {phase}", table)
+        yield chosen("past the last writer", table, WRITERS)
+
+
+def stepped(table: Table, label: str, *taken: Step) -> Iterator[str]:
+    """Steps on a table, as a log and by advance, and the numbers of Q-12 then."""
+    for _ in ("as a log", "by advance"):
+        here = copy.deepcopy(table)
+        yield from ran(here, label, encode(taken), [0] * 8)[0]
+        yield from numbers_lines(here)
+
+
+def starts_by_hand() -> Iterator[str]:
+    """What starts record for Q-12 in such tables."""
+    put = Put(1, 10, 1)
+    yield "== Starts beside a ready writer that holds a timestamp"
+    table = looking(Phase.READY)
+    table.writers[0] = Writer(Phase.LOOK_UP, put, 4, 1)
+    table.writers[15] = Writer(Phase.COMMIT, put, 9, 1)
+    table.counts[3], table.noted[3][2], table.noted[3][3] = 9, 8, 8
+    table.places = {1: 1, 4: 128}
+    yield from stepped(table, "writer 2 starts", Step(2, put))
+    yield from stepped(table, "the ready writer starts", Step(3, put))
+    yield from stepped(table, "both start", Step(3, Remove(1)), Step(2, put))
+
+    yield "== A start where all but one timestamp are completed"
+    timeline = dict.fromkeys(range(1, 128), completed(7))
+    yield from stepped(table_of(127, timeline, {}, {}), "start", Step(9, put))
+
+    yield "== Two holders of one timestamp"
+    table = looking()
+    table.writers[4] = Writer(Phase.COMMIT, put, 5, 1)
+    both = [Step(0, Remove(1)), Step(4, COMMIT)]
+    yield from stepped(table, "a start, and a commit", *both)
+    for taken in both:
+        table.step(taken)
+    for writer in (0, 3, 4):
+        yield candidates_line(table, writer)
+
+
+def ends_by_hand() -> Iterator[str]:
+    """What commits and other endings record for Q-12 in such tables, and keep."""
+    all_done = dict.fromkeys(range(1, 129), completed(2))
+    for mode in Mode:
+        yield f"== Commits: {mode.value}"
+        for label, own, timeline in (
+            ("its instant is inflight", 3, {}),
+            ("it is requested", 4, {}),
+            ("it is completed", 5, {}),
+            ("there is none", 7, {}),
+            ("all are completed", 1, all_done),
+            ("all but the last are completed", 128, all_done | {128: inflight(2)}),
+        ):
+            table = looking(Phase.COMMIT, own, 128, mode)
+            table.timeline |= timeline
+            table.places = {2: 66, 100: 55} | {own: 77}
+            table.counts[3], table.noted[3][9] = 4, 2
+            yield from stepped(table, label, Step(3, COMMIT))
+
+        yield f"== Numbers of others: {mode.value}"
+        table = looking(Phase.LOOK_UP, mode=mode)
+        table.places = {1: 9, 5: 8, 128: 7}
+        table.counts = [6] * WRITERS
+        table.noted = [[7] * WRITERS for _ in range(WRITERS)]
+        walk = operation_steps(3, Put(9, 90, 7), mode)[1:]
+        yield from stepped(table, "it gives up", Step(3, GIVE_UP))
+        yield from stepped(table, "it commits", *walk)
+        yield from stepped(table, "it goes on", *walk[:-1])
+        yield from stepped(table, "refused", Step(3, Remove(1)), Step(9, COMMIT))
+
+
 def largest(last: int = MAX_TIMESTAMP) -> Table:
     """A table in range with every number at its largest."""
     group = GROUPS - 1
@@ -1201,6 +1351,9 @@ def largest(last: int = MAX_TIMESTAMP) -> Table:
         {place: WRITERS - 1 for place in range(1, GROUPS)},
         [Writer(Phase.COMMIT, put, last, group, last, True) for _ in range(WRITERS)],
         horizon=last,
+        places=dict.fromkeys(range(1, MAX_TIMESTAMP + 1), MAX_TIMESTAMP),
+        counts=[MAX_TIMESTAMP] * WRITERS,
+        noted=[[last] * WRITERS for _ in range(WRITERS)],
     )
 
 
@@ -1214,6 +1367,50 @@ def tried(title: str, table: Table) -> Iterator[str]:
     yield scan_into(table, MAX_TIMESTAMP, 2)
     yield instant_line(table, MAX_TIMESTAMP)
     yield clean_line(table, MAX_TIMESTAMP + 1)
+    for writer in (WRITERS, WRITERS - 1):
+        yield f"candidates of {candidates_line(table, writer)}"
+
+
+def recorded_grounds() -> Iterator[str]:
+    """Answer 17 for the numbers of Q-12: the first and the last of each kind."""
+    last, above = MAX_TIMESTAMP - 1, MAX_TIMESTAMP + 1
+    ends = ("first", 0), ("last", -1)
+
+    def place_off(timestamp: int, issued: int = MAX_TIMESTAMP) -> Table:
+        table = largest(issued)
+        table.places[timestamp] = above
+        return table
+
+    def count_off(writer: int) -> Table:
+        table = largest()
+        table.counts[writer] = above
+        return table
+
+    def noted_off(place: int, issued: int) -> Table:
+        table = largest(issued)
+        table.noted[place][place] = issued + 1
+        return table
+
+    yield from tried("17: place of the first timestamp", place_off(1))
+    yield from tried("17: place of the last timestamp", place_off(MAX_TIMESTAMP))
+    for name, writer in ends:
+        yield from tried(f"17: count of the {name} writer", count_off(writer))
+    for name, place in ends:
+        title = f"17: {name} noted timestamp"
+        yield from tried(title, noted_off(place, MAX_TIMESTAMP))
+    for name, place in ends:
+        title = f"17: {name} noted timestamp, one timestamp left"
+        yield from tried(title, noted_off(place, last))
+    title = "17: place of the last timestamp, one timestamp left"
+    yield from tried(title, place_off(MAX_TIMESTAMP, last))
+    for name, table in (
+        ("place of the last timestamp", place_off(MAX_TIMESTAMP)),
+        ("count of the last writer", count_off(-1)),
+        ("last noted timestamp", noted_off(-1, MAX_TIMESTAMP)),
+    ):
+        pessimistic = with_locks(table, [WRITERS - 1] * GROUPS)
+        pessimistic = replace(pessimistic, mode=Mode.PESSIMISTIC)
+        yield from tried(f"17: {name}, pessimistic", pessimistic)
 
 
 def grounds() -> Iterator[str]:
@@ -1275,6 +1472,7 @@ def grounds() -> Iterator[str]:
     yield from tried("17: timestamp at phase 0", timestamp)
     base = off(last, phase=Phase.READY, base=last + 1)
     yield from tried("17: base at phase 0", base)
+    yield from recorded_grounds()
 
     yield "== Out of range"
     table = Table(MAX_TIMESTAMP + 1)
@@ -1377,6 +1575,7 @@ PROGRAMS = {
     "reading": (reading,),
     "tables": (hand_set,),
     "cleaned_tables": (cleaned_by_hand,),
+    "candidate_tables": (chosen_by_hand, starts_by_hand, ends_by_hand),
     "out_of_range": (grounds,),
     "searches": (searches,),
 }

@@ -8,11 +8,13 @@ requests of document 02 that are built.
 from __future__ import annotations
 
 import copy
+import itertools
 import random
 import unittest
 from collections.abc import Sequence
 from dataclasses import replace
 
+from make_candidates import CheckedCandidates
 from make_cleaning import CheckedCleans, Clean
 from make_cleaning import walk as walk_with_cleans
 from make_corpus import PROFILES, Draw, operation_steps, walk
@@ -21,13 +23,16 @@ from table_model import (
     GROUPS,
     MAX_INPUT,
     MAX_NUMBER,
+    MAX_TIMESTAMP,
     OLD_CODING,
     WRITERS,
     Action,
     Answer,
+    Candidates,
     Committed,
     History,
     Instant,
+    InstantList,
     LogWrite,
     Malformed,
     Mode,
@@ -1184,6 +1189,564 @@ class CleanedByHand(unittest.TestCase):
             self.assertEqual(table.slices, {(3, 2): {1: 11}, (3, 3): {1: 11, 2: 20}})
 
 
+def list_of(*timestamps: int) -> InstantList:
+    """A list with these timestamps in its first places."""
+    unused = (0,) * (128 - len(timestamps))
+    return InstantList(len(timestamps), timestamps + unused)
+
+
+def lists(by_start: Sequence[int], by_completion: Sequence[int]) -> Candidates:
+    return Candidates(Answer.TAKEN, list_of(*by_start), list_of(*by_completion))
+
+
+NO_ROW = [0] * WRITERS
+
+
+class CandidateTest(CleaningTest):
+    """A fresh table, and the candidate instants of its writers."""
+
+    def assert_candidates(self, expected: dict[int, Sequence[int]]) -> None:
+        """These writers, and no others, have lists, and both are the same."""
+        for number in range(WRITERS):
+            with self.subTest(number=number):
+                found = self.table.candidates(number)
+                if number in expected:
+                    listed = expected[number]
+                    self.assertEqual(found, lists(listed, listed))
+                else:
+                    self.assert_ready(number)
+        self.assertEqual(self.table.candidates(WRITERS), refused_with(10))
+
+    def assert_ready(self, number: int) -> None:
+        """A ready writer keeps nothing, and the call is refused with 14."""
+        self.assertEqual(self.table.candidates(number), refused_with(14))
+        self.assertEqual(self.table.counts[number], 0)
+        self.assertEqual(self.table.noted[number], NO_ROW)
+
+    def assert_recorded(self, number: int, count: int, held: dict[int, int]) -> None:
+        """What the writer's operation recorded at its start."""
+        row = [held.get(other, 0) for other in range(WRITERS)]
+        self.assertEqual(self.table.counts[number], count)
+        self.assertEqual(self.table.noted[number], row)
+
+
+def refused_with(answer: int) -> Candidates:
+    """A refusal: all places and counts are 0."""
+    return Candidates(Answer(answer), list_of(), list_of())
+
+
+class CandidateInstants(CandidateTest):
+    """Document 02's Q-12, in the optimistic mode."""
+
+    def test_a_fresh_table(self) -> None:
+        self.assertEqual(self.table.places, {})
+        self.assert_candidates({})
+
+    def test_p10(self) -> None:
+        """The candidates of each operation at each step."""
+        one, two = Put(1, 10, 1), Put(2, 20, 2)
+        for operation in (one, two):
+            *steps, commit = self.steps_of(0, operation)
+            for step in steps:
+                self.take(step)
+                self.assert_candidates({0: []})
+            self.take(commit)
+            self.assert_candidates({})
+        self.assertEqual(self.table.places, {1: 1, 2: 2})
+        three, four = self.steps_of(3, Put(1, 11, 1)), self.steps_of(4, Put(2, 21, 2))
+        self.take(three[0])
+        self.assert_recorded(3, 2, {})
+        self.assert_candidates({3: []})
+        for step in four[:-1]:
+            self.take(step)
+            self.assert_recorded(4, 2, {3: 3})
+            self.assert_candidates({3: [], 4: []})
+        self.assertEqual(self.take(four[-1]), [1])
+        self.assertEqual(self.table.places, {1: 1, 2: 2, 4: 3})
+        for step in three[1:]:
+            self.assert_recorded(3, 2, {})
+            self.assert_candidates({3: [4]})
+            self.take(step)
+        self.assertEqual(self.table.places, {1: 1, 2: 2, 4: 3, 3: 4})
+        self.assert_candidates({})
+
+    def test_p10_with_a_third_operation(self) -> None:
+        """It starts between the two commits: what completed before is not listed."""
+        self.commit(Put(1, 10, 1), Put(2, 20, 2))
+        three, four = self.steps_of(3, Put(1, 11, 1)), self.steps_of(4, Put(2, 21, 2))
+        five = self.steps_of(5, Put(3, 30, 3))
+        self.take(three[0], *four, five[0])
+        self.assert_recorded(5, 3, {3: 3})
+        self.assert_candidates({3: [4], 5: []})
+        self.assert_last(1, three[1:])
+        self.assert_candidates({5: [3]})
+
+    def test_a_place_is_one_more_than_the_other_commits(self) -> None:
+        for number in range(1, 6):
+            self.assertEqual(sorted(self.table.places.values()), [*range(1, number)])
+            self.take(Step(1, Remove(9)), Step(1, GIVE_UP))
+            *steps, commit = self.steps_of(0, Put(1, number, 3))
+            for step in steps:
+                self.take(step)
+                self.assertNotIn(2 * number, self.table.places)
+            self.take(commit)
+            self.assertEqual(self.table.places[2 * number], number)
+        self.assertEqual(self.table.places, {2: 1, 4: 2, 6: 3, 8: 4, 10: 5})
+
+    def test_the_first_to_start_and_the_last_to_commit(self) -> None:
+        slow = self.steps_of(9, Put(31, 1, 7))
+        self.take(slow[0])
+        for number in range(1, 6):
+            self.commit(Put(number, number, number), writer=number)
+            self.assert_candidates({9: [*range(2, number + 2)]})
+        for step in slow[1:-1]:
+            self.assertEqual(self.take(step), [0])
+            self.assert_candidates({9: [2, 3, 4, 5, 6]})
+        self.take(slow[-1])
+        self.assertEqual(self.table.places, {2: 1, 3: 2, 4: 3, 5: 4, 6: 5, 1: 6})
+        self.assert_candidates({})
+
+    def test_pending_at_the_start_and_completed_since(self) -> None:
+        early, late = self.steps_of(1, Put(1, 1, 1)), self.steps_of(2, Put(2, 2, 2))
+        self.take(early[0], late[0], Step(3, Remove(3)))
+        self.assert_recorded(1, 0, {})
+        self.assert_recorded(2, 0, {1: 1})
+        self.assert_recorded(3, 0, {1: 1, 2: 2})
+        self.assert_candidates({1: [], 2: [], 3: []})
+        self.assert_last(1, late[1:])
+        self.assert_candidates({1: [2], 3: [2]})
+        self.assert_last(1, early[1:])
+        self.assert_candidates({3: [1, 2]})
+
+    def test_pending_at_the_start_and_given_up(self) -> None:
+        """At each phase; its instant is in no list, then or later."""
+        pending = self.steps_of(1, Put(1, 1, 1))
+        for taken in range(1, len(pending)):
+            self.table = Table(mode=self.MODE)
+            self.take(*pending[:taken], Step(2, Put(2, 2, 2)))
+            self.assert_recorded(2, 0, {1: 1})
+            self.assertEqual(self.take(Step(1, GIVE_UP)), [6])
+            self.assert_recorded(2, 0, {1: 1})
+            self.assert_candidates({2: []})
+            self.commit(Put(1, 1, 1), writer=1)
+            self.assert_candidates({2: [3]})
+            self.assertEqual(self.table.places, {3: 1})
+
+    def test_a_later_start_that_ends_or_is_pending(self) -> None:
+        self.take(Step(0, Put(0, 1, 0)), *through(1, READ, Put(1, 1, 1)))
+        self.take(Step(2, Remove(9)), Step(2, LOOK_UP))
+        self.take(*through(3, READ, Put(3, 3, 3)), Step(3, GIVE_UP))
+        self.assert_candidates({0: [], 1: []})
+
+    def test_each_ending_keeps_nothing(self) -> None:
+        """2 to 6 and the commit: neither a count nor a noted timestamp stays, and the
+        places are those of the commits.
+        """
+        own, other = self.steps_of(2, Put(5, 1, 5)), self.steps_of(4, Put(6, 1, 5))
+        moved, remove = self.steps_of(4, Put(5, 2, 4)), self.steps_of(2, Remove(5))
+        ends = [
+            (1, own),
+            (6, [*own[:3], Step(2, GIVE_UP)]),
+            (2, remove[:2]),
+            (3, [*own[:2], *other, own[2]]),
+            (4, [*own[:2], *moved[:2], *moved[2:], *own[2:5]]),
+        ]
+        if self.MODE is Mode.OPTIMISTIC:
+            ends.append((5, [*own[:3], *other, *own[3:6]]))
+        for answer, steps in ends:
+            with self.subTest(answer=answer):
+                self.table = Table(mode=self.MODE)
+                self.commit(Put(1, 10, 3), writer=8)
+                self.take(Step(7, Remove(30)), Step(9, Remove(31)))
+                self.take(*steps[:-1])
+                self.assert_recorded(2, 1, {7: 2, 9: 3})
+                self.assertEqual(self.take(steps[-1]), [answer])
+                self.assert_ready(2)
+                self.assert_recorded(9, 1, {7: 2})
+
+    def test_an_end_leaves_the_others_notes(self) -> None:
+        """They keep the timestamp that the ended operation held."""
+        self.take(*(Step(writer, Remove(writer)) for writer in range(WRITERS)))
+        for ended in (0, 7, 15):
+            self.take(Step(ended, GIVE_UP))
+            for number in range(WRITERS):
+                if self.table.writers[number].phase:
+                    self.assert_recorded(number, 0, {u: u + 1 for u in range(number)})
+                else:
+                    self.assert_recorded(number, 0, {})
+
+    def test_a_new_start_records_anew(self) -> None:
+        self.take(Step(1, Remove(1)), Step(2, Remove(2)))
+        self.assert_recorded(2, 0, {1: 1})
+        self.take(Step(1, GIVE_UP), Step(2, GIVE_UP))
+        self.commit(Put(3, 3, 3))
+        self.take(Step(5, Remove(5)), Step(2, Remove(2)))
+        self.assert_recorded(2, 1, {5: 4})
+        self.assert_candidates({2: [], 5: []})
+
+    def test_each_writer_is_noted_by_each(self) -> None:
+        for noting in range(WRITERS):
+            self.table = Table(mode=self.MODE)
+            others = [writer for writer in range(WRITERS) if writer != noting]
+            self.take(*(Step(writer, Remove(writer)) for writer in others))
+            self.take(Step(noting, Remove(31)))
+            held = {writer: place for place, writer in enumerate(others, 1)}
+            self.assert_recorded(noting, 0, held)
+
+    def test_each_phase_is_noted(self) -> None:
+        steps = self.steps_of(1, Put(1, 1, 1))
+        for taken in range(len(steps) + 1):
+            self.table = Table(mode=self.MODE)
+            self.take(*steps[:taken], Step(2, Remove(9)))
+            done = taken == len(steps)
+            held = {1: 1} if 0 < taken and not done else {}
+            self.assert_recorded(2, 1 if done else 0, held)
+
+    def test_each_order_of_the_commits(self) -> None:
+        """The lists rise by timestamp, whatever the order of completions."""
+        for order in itertools.permutations(range(4)):
+            self.table = Table(mode=self.MODE)
+            operations = [self.steps_of(w, Put(w, w, w)) for w in range(4)]
+            self.take(Step(10, Remove(30)), *(steps[0] for steps in operations))
+            self.take(Step(11, Remove(31)))
+            for place, writer in enumerate(order):
+                self.assert_last(1, operations[writer][1:])
+                done = sorted(other + 2 for other in order[: place + 1])
+                for watching in (10, 11):
+                    found = self.table.candidates(watching)
+                    self.assertEqual(found, lists(done, done))
+                for other in order[place + 1 :]:
+                    found = self.table.candidates(other)
+                    self.assertEqual(found, lists(done, done))
+            places = {writer + 2: place for place, writer in enumerate(order, 1)}
+            self.assertEqual(self.table.places, places)
+
+    def test_instants_of_any_group_and_key(self) -> None:
+        self.take(Step(9, Remove(31)))
+        for group in range(GROUPS):
+            self.commit(Put(group, 1, group), Put(8, 1, 0))
+        self.assert_candidates({9: [*range(2, 18)]})
+
+    def test_a_remove_counts_as_a_put_does(self) -> None:
+        self.commit(Put(1, 1, 1))
+        self.take(Step(9, Put(2, 2, 2)))
+        self.commit(Remove(1))
+        self.assertEqual(self.table.places, {1: 1, 3: 2})
+        self.assert_candidates({9: [3]})
+
+    def test_refusals_in_order(self) -> None:
+        """17, then 10, then 14; any 64-bit number names a writer."""
+        self.commit(Put(1, 1, 1))
+        self.take(Step(3, Put(2, 2, 2)))
+        self.commit(Put(1, 2, 1))
+        wide = (16, 17, 128, 255, 256, 259, 2**16 + 3, 2**32 + 3, 2**63, NEVER_ISSUED)
+        for number in wide:
+            self.assertEqual(self.table.candidates(number), refused_with(10))
+        for number in range(WRITERS):
+            if number != 3:
+                self.assertEqual(self.table.candidates(number), refused_with(14))
+        self.assertEqual(self.table.candidates(3), lists([3], [3]))
+        self.table.horizon = 4
+        for number in (0, 3, 15, *wide):
+            self.assertEqual(self.table.candidates(number), refused_with(17))
+
+    def test_the_call_changes_nothing(self) -> None:
+        self.take(Step(1, Remove(9)), Step(3, Put(2, 2, 2)))
+        self.commit(Put(1, 1, 1))
+        before = copy.deepcopy(self.table)
+        for number in (*range(WRITERS + 1), NEVER_ISSUED):
+            self.table.candidates(number)
+        self.assertEqual(self.table, before)
+
+    def test_each_phase_from_1_on(self) -> None:
+        start, *rest, commit = self.steps_of(3, Put(2, 2, 2))
+        self.take(start)
+        self.commit(Put(1, 1, 1))
+        self.assert_candidates({3: [2]})
+        for step in rest:
+            self.assertEqual(self.take(step), [0])
+            self.assert_candidates({3: [2]})
+        self.assertEqual(self.take(commit), [1])
+        self.assert_candidates({})
+
+    def test_refused_steps_change_nothing(self) -> None:
+        self.commit(Put(1, 1, 1))
+        self.take(Step(2, Put(2, 2, 2)), Step(3, Put(3, 3, 3)))
+        before = copy.deepcopy(self.table)
+        for step, answer in (
+            (Step(3, Put(4, 4, 4)), 14),
+            (Step(3, COMMIT), 14),
+            (Step(4, GIVE_UP), 14),
+            (Step(4, COMMIT), 14),
+            (Step(4, Put(32, 4, 4)), 12),
+            (Step(4, Put(4, 4, 8)), 13),
+            (Step(4, Put(4, ERASED_WORD, 4)), 18),
+            (Step(16, Put(4, 4, 4)), 10),
+        ):
+            self.assertEqual(self.take(step), [answer])
+            self.assertEqual(self.table, before)
+        while self.table.last_timestamp < MAX_TIMESTAMP:
+            self.take(Step(5, Remove(9)), Step(5, GIVE_UP))
+        before = copy.deepcopy(self.table)
+        self.assertEqual(self.take(Step(5, Put(4, 4, 4))), [15])
+        self.assertEqual(self.table, before)
+
+    def test_cleans_change_none_of_it(self) -> None:
+        self.commit(Put(1, 1, 1))
+        self.take(Step(2, Put(2, 2, 2)), Step(3, Put(3, 3, 3)))
+        self.commit(Put(1, 2, 1), Put(1, 3, 1))
+        for at, answer in ((0, 0), (4, 0), (3, 34), (5, 0), (6, 34), (5, 0)):
+            self.assert_clean(at, answer)
+            self.assertEqual(self.table.places, {1: 1, 4: 2, 5: 3})
+            self.assert_recorded(2, 1, {})
+            self.assert_recorded(3, 1, {2: 2})
+            self.assert_candidates({2: [4, 5], 3: [4, 5]})
+        self.assert_last(1, self.steps_of(3, Put(3, 3, 3))[1:])
+        self.assertEqual(self.table.places, {1: 1, 4: 2, 5: 3, 3: 4})
+
+    def test_all_timestamps(self) -> None:
+        """127 candidates; the places and a count are at their largest."""
+        slow = self.steps_of(15, Put(31, 1, 7))
+        self.take(slow[0])
+        for number in range(126):
+            self.commit(Put(number % 5, number, number % 5), writer=number % 10)
+        last = self.steps_of(14, Put(30, 1, 6))
+        self.take(last[0])
+        self.assert_recorded(14, 126, {15: 1})
+        listed = [*range(2, 128)]
+        self.assert_candidates({15: listed, 14: []})
+        self.assert_last(1, slow[1:])
+        self.assertEqual(self.table.places[1], 127)
+        self.assert_candidates({14: [1]})
+        self.assert_last(1, last[1:])
+        self.assertEqual(self.table.places[128], 128)
+        self.assertEqual(sorted(self.table.places.values()), [*range(1, 129)])
+        self.assertTrue(self.table.in_range())
+
+    def test_127_candidates(self) -> None:
+        self.take(Step(15, Put(31, 1, 7)))
+        for number in range(127):
+            self.commit(Put(number % 5, number, number % 5), writer=number % 10)
+        self.assert_candidates({15: [*range(2, 129)]})
+
+    def test_walks_with_cleans(self) -> None:
+        """`CheckedCandidates` holds them to what the history says."""
+        listed = 0
+        for seed, profile in enumerate(PROFILES):
+            table, checked = Table(mode=self.MODE), CheckedCandidates(self.MODE)
+            for event in walk_with_cleans(Draw(seed), profile, 150, table, 0.1):
+                checked.take(event)
+            self.assertEqual(table, checked.table)
+            listed += sum(table.candidates(w).by_start.count for w in range(WRITERS))
+        self.assertGreater(listed, 0)
+
+
+class CandidateInstantsOfThePessimisticMode(CandidateInstants):
+    """Q-12 in a pessimistic table."""
+
+    MODE = Mode.PESSIMISTIC
+
+
+class CandidatesSetByHand(unittest.TestCase):
+    """Q-12 on tables that no steps lead to."""
+
+    def table_with(
+        self, *completed: int, own: int = 5, last: int = 9, phase: int = Phase.WRITE
+    ) -> Table:
+        """Writer 3 holds a timestamp, and these timestamps are completed."""
+        timeline = {at: Instant(State.COMPLETED, at % 8) for at in completed}
+        table = Table(last, timeline)
+        table.writers[3] = Writer(phase, Put(9, 90, 7), own, 7, 0)
+        return table
+
+    def test_way_one_uses_no_place_and_no_count(self) -> None:
+        table = self.table_with(1, 2, 5, 6, 9)
+        table.noted[3][4] = 2
+        for place in (0, 1, 128):
+            for count in (0, 1, 128):
+                table.places = dict.fromkeys(range(1, 10), place)
+                table.counts[3] = count
+                found = table.candidates(3)
+                self.assertEqual(found.by_start, list_of(2, 6, 9))
+                expected = (1, 2, 5, 6, 9) if place > count else ()
+                self.assertEqual(found.by_completion, list_of(*expected))
+
+    def test_way_two_uses_no_noted_timestamp(self) -> None:
+        table = self.table_with(1, 2, 5, 6, 9)
+        table.places = {1: 1, 2: 3, 5: 3, 6: 2, 9: 4}
+        table.counts[3] = 2
+        for noted in range(10):
+            table.noted[3] = [noted] * WRITERS
+            self.assertEqual(table.candidates(3).by_completion, list_of(2, 5, 9))
+
+    def test_noted_timestamps(self) -> None:
+        """Not completed, twice, its own, above its own, at each place of the row."""
+        table = self.table_with(1, 2, 5, 6, 9)
+        table.timeline[3] = Instant(State.INFLIGHT, 3)
+        table.timeline[4] = REQUESTED
+        for noted, listed in (
+            ((), (6, 9)),
+            ((3, 4, 7), (6, 9)),
+            ((2, 2), (2, 6, 9)),
+            ((5,), (5, 6, 9)),
+            ((9, 6, 1), (1, 6, 9)),
+            ((2, 1, 2, 5, 5, 9), (1, 2, 5, 6, 9)),
+        ):
+            for first in (0, WRITERS - len(noted)):
+                with self.subTest(noted=noted, first=first):
+                    table.noted[3] = list(NO_ROW)
+                    table.noted[3][first : first + len(noted)] = noted
+                    found = table.candidates(3)
+                    self.assertEqual(found, lists(listed, ()))
+
+    def test_only_the_writer_s_own_row_and_count(self) -> None:
+        table = self.table_with(1, 2)
+        table.places = {1: 1, 2: 2}
+        table.counts = [0 if number != 3 else 1 for number in range(WRITERS)]
+        table.noted = [[1] * WRITERS for _ in range(WRITERS)]
+        table.noted[3] = list(NO_ROW)
+        self.assertEqual(table.candidates(3), lists((), (2,)))
+        table.counts = [128 if number != 3 else 0 for number in range(WRITERS)]
+        table.noted[3] = [2] * WRITERS
+        self.assertEqual(table.candidates(3), lists((2,), (1, 2)))
+
+    def test_places(self) -> None:
+        """Equal ones, 0 for a completed instant, and one of an instant that is not
+        completed, or of none.
+        """
+        table = self.table_with(1, 2, 5, 6)
+        table.timeline[3] = Instant(State.INFLIGHT, 3)
+        table.timeline[4] = REQUESTED
+        table.places = {1: 2, 2: 2, 3: 9, 4: 9, 5: 1, 8: 9, 100: 9}
+        for count, listed in ((0, (1, 2, 5)), (1, (1, 2)), (2, ()), (128, ())):
+            table.counts[3] = count
+            self.assertEqual(table.candidates(3), lists((6,), listed))
+
+    def test_the_ends_of_the_timeline(self) -> None:
+        table = self.table_with(1, 128, own=127, last=128)
+        table.places = {1: 128, 128: 1}
+        self.assertEqual(table.candidates(3), lists((128,), (1, 128)))
+        table.counts[3] = 127
+        self.assertEqual(table.candidates(3), lists((128,), (1,)))
+        table.counts[3] = 128
+        self.assertEqual(table.candidates(3), lists((128,), ()))
+        table = self.table_with(*range(1, 129), own=1, last=128)
+        table.noted[3][0] = 1
+        table.places = dict.fromkeys(range(1, 129), 1)
+        every = range(1, 129)
+        self.assertEqual(table.candidates(3), lists((*every,), (*every,)))
+
+    def test_phase_0_with_a_timestamp(self) -> None:
+        """The call is refused with 14, whatever the writer's numbers are."""
+        table = self.table_with(6, phase=Phase.READY)
+        table.places, table.noted[3] = {6: 1}, [6] * WRITERS
+        self.assertEqual(table.candidates(3), refused_with(14))
+
+    def test_a_ready_writer_that_holds_a_timestamp_is_not_noted(self) -> None:
+        for mode in Mode:
+            table = self.table_with(1, 2, phase=Phase.READY)
+            table.mode = mode
+            table.writers[4] = Writer(Phase.READ, Put(1, 1, 1), 4, 1, 0)
+            table.writers[15] = Writer(Phase.COMMIT, Put(1, 1, 1), 9, 1, 0)
+            self.assertEqual(table.step(Step(0, Put(5, 5, 5))), 0)
+            self.assertEqual(table.counts[0], 2)
+            self.assertEqual(table.noted[0], [0] * 4 + [4] + [0] * 10 + [9])
+
+    def test_the_starting_writer_does_not_note_itself(self) -> None:
+        """Though it is ready and holds a timestamp, and keeps older notes."""
+        table = self.table_with(1, 2, 6, phase=Phase.READY)
+        table.counts[3], table.noted[3] = 9, [8] * WRITERS
+        self.assertEqual(table.step(Step(3, Put(5, 5, 5))), 0)
+        self.assertEqual((table.counts[3], table.noted[3]), (3, NO_ROW))
+        self.assertEqual(table.candidates(3), lists((), ()))
+
+    def test_a_start_counts_all_completed_instants(self) -> None:
+        table = self.table_with(*range(1, 128), own=1, last=127)
+        self.assertEqual(table.step(Step(5, Remove(1))), 0)
+        self.assertEqual(table.counts[5], 127)
+
+    def test_own_instant_completed_at_its_commit(self) -> None:
+        """It is not counted, whatever it was, and its place is set anew."""
+        for mode in Mode:
+            for own, completed, place in (
+                (5, (), 1),
+                (5, (5,), 1),
+                (5, (1, 2, 6), 4),
+                (5, (1, 2, 5, 6), 4),
+                (128, range(1, 128), 128),
+                (128, range(1, 129), 128),
+                (1, range(1, 129), 128),
+            ):
+                with self.subTest(mode=mode, own=own, completed=completed):
+                    last = max(9, own, *completed)
+                    table = self.table_with(*completed, own=own, last=last)
+                    table.mode, table.writers[3].phase = mode, Phase.COMMIT
+                    table.places = {own: 77, 2: 66, 100: 55}
+                    kept = table.places | {own: place}
+                    self.assertEqual(table.step(Step(3, COMMIT)), 1)
+                    self.assertEqual(table.places, kept)
+
+    def test_own_instant_inflight_or_requested_at_its_commit(self) -> None:
+        for instant in (REQUESTED, Instant(State.INFLIGHT, 7)):
+            table = self.table_with(1, 2, phase=Phase.COMMIT)
+            table.timeline |= {5: instant, 4: REQUESTED, 3: Instant(State.INFLIGHT, 1)}
+            self.assertEqual(table.step(Step(3, COMMIT)), 1)
+            self.assertEqual(table.places, {5: 3})
+
+    def test_only_a_commit_sets_a_place(self) -> None:
+        """Nor does an ending take one back."""
+        for mode in Mode:
+            steps = operation_steps(3, Put(9, 90, 7), mode)[1:-1]
+            for taken in range(len(steps) + 1):
+                table = self.table_with(own=9, phase=Phase.LOOK_UP)
+                table.mode, table.places = mode, {1: 4, 5: 6, 9: 7, 77: 8}
+                for step in steps[:taken]:
+                    self.assertEqual(table.step(step), 0)
+                self.assertEqual(table.step(Step(3, GIVE_UP)), 6)
+                self.assertEqual(table.places, {1: 4, 5: 6, 9: 7, 77: 8})
+
+    def test_an_end_clears_the_own_row_and_count_alone(self) -> None:
+        for mode in Mode:
+            for action, phase in ((GIVE_UP, Phase.READ), (COMMIT, Phase.COMMIT)):
+                table = self.table_with(phase=phase)
+                table.mode = mode
+                table.counts = [number + 1 for number in range(WRITERS)]
+                table.noted = [[number % 9] * WRITERS for number in range(WRITERS)]
+                kept = copy.deepcopy(table)
+                kept.counts[3], kept.noted[3] = 0, NO_ROW
+                self.assertLess(table.step(Step(3, action)), 10)
+                self.assertEqual(table.counts, kept.counts)
+                self.assertEqual(table.noted, kept.noted)
+
+    def test_steps_that_go_on_change_nothing(self) -> None:
+        for mode in Mode:
+            table = self.table_with(phase=Phase.LOOK_UP)
+            table.mode = mode
+            table.counts = [number + 1 for number in range(WRITERS)]
+            table.noted = [[number % 9] * WRITERS for number in range(WRITERS)]
+            kept = copy.deepcopy((table.places, table.counts, table.noted))
+            for step in operation_steps(3, Put(9, 90, 7), mode)[1:-1]:
+                self.assertEqual(table.step(step), 0)
+                self.assertEqual((table.places, table.counts, table.noted), kept)
+
+    def test_a_pending_instant_of_no_writer(self) -> None:
+        """An instant is noted for its holder, not for its state."""
+        table = self.table_with(phase=Phase.READY)
+        table.timeline = {4: REQUESTED, 6: Instant(State.INFLIGHT, 1)}
+        table.writers[8] = Writer(Phase.WRITE, Put(1, 1, 1), 2, 1, 0)
+        self.assertEqual(table.step(Step(0, Remove(1))), 0)
+        self.assertEqual(table.noted[0], [0] * 8 + [2] + [0] * 7)
+
+    def test_two_holders_of_one_timestamp(self) -> None:
+        table = self.table_with(own=5)
+        table.writers[4] = Writer(Phase.COMMIT, Put(1, 1, 1), 5, 1, 0)
+        self.assertEqual(table.step(Step(0, Remove(1))), 0)
+        self.assertEqual(table.noted[0][3:5], [5, 5])
+        self.assertEqual(table.step(Step(4, COMMIT)), 1)
+        self.assertEqual(table.candidates(0), lists((5,), (5,)))
+        self.assertEqual(table.candidates(3), lists((), (5,)))
+
+
 class ConflictSearch(unittest.TestCase):
     """Document 02's Q-2."""
 
@@ -1315,6 +1878,8 @@ class OutOfRange(TableTest):
         self.assertEqual(buffer, [9] * 99)
         self.assertEqual(self.table.instant(1), 17)
         self.assertEqual(self.table.clean(NEVER_ISSUED), 17)
+        for writer in (0, 1, 16, NEVER_ISSUED):
+            self.assertEqual(self.table.candidates(writer), refused_with(17))
         self.assertEqual(self.table, before)
 
     def test_reached_table(self) -> None:
@@ -1358,6 +1923,39 @@ class OutOfRange(TableTest):
                 self.assert_out_of_range()
                 setattr(writer, name, kept)
                 self.assertTrue(self.table.in_range())
+
+
+    def test_places(self) -> None:
+        for timestamp in range(1, MAX_TIMESTAMP + 1):
+            kept = dict(self.table.places)
+            self.table.places[timestamp] = 128
+            self.assertTrue(self.table.in_range())
+            self.table.places[timestamp] = 129
+            self.assert_out_of_range()
+            self.table.places = kept
+
+    def test_counts(self) -> None:
+        for writer in range(WRITERS):
+            self.table.counts[writer] = 128
+            self.assertTrue(self.table.in_range())
+            self.table.counts[writer] = 129
+            self.assert_out_of_range()
+            self.table.counts[writer] = 0
+
+    def test_noted(self) -> None:
+        """For all rows; the last issued timestamp is 2."""
+        for writer, other in itertools.product(range(WRITERS), repeat=2):
+            self.table.noted[writer][other] = 2
+            self.assertTrue(self.table.in_range())
+            for noted in (3, 128, 129):
+                self.table.noted[writer][other] = noted
+                self.assertFalse(self.table.in_range())
+            self.table.noted[writer][other] = 0
+        for writer, other in ((0, 0), (0, 15), (7, 8), (15, 0), (15, 15)):
+            self.table.noted[writer][other] = 3
+            self.assert_out_of_range()
+            self.table.noted[writer][other] = 0
+        self.assertTrue(self.table.in_range())
 
 
 class Reading(TableTest):

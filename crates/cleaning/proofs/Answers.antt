@@ -23,7 +23,7 @@ module _ (st : State) (c : ℕ) where
     pub in-range-swept : c ≤ st .shared .last → (instantsInRange (st .shared .timeline) ≡ true) × (c ≤ timestamps)
     unfolding inRange
     in-range-swept h =
-        let (last, (horizon, (lock, (writer, (entry, (coded, above)))))) = simp facts at r in
+        let (last, (horizon, (lock, (entry, (coded, rest))))) = simp facts at r in
         (coded, omega arith)
 
     pub clean-below : c < st .horizon → answered noHorizon st ≡ clean st c

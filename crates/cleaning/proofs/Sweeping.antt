@@ -8,13 +8,12 @@ use mathlib.Core.List.{List}
 use mathlib.Core.Path.{_≡_, refl, _∙_, ap}
 use lib.ListN.{getD}
 use borrow.Author.Tests.{lt-ltb, le-leb}
-use Rattle.common.proofs.Cases.{facts}
-use Rattle.common.proofs.EachBelow.{below-iff}
 use Rattle.model.specs.Limits.{groups, timestamps}
 use Rattle.model.specs.State.{groupOfCompleted}
 use Rattle.model.specs.Range.{instantsInRange}
 use Rattle.model.specs.Snapshot.{instantOf}
 use Rattle.model.specs.Cleaning.{drops, swept}
+use Rattle.model.proofs.Ranged.{at-most-iff}
 use Rattle.slices.specs.Slices.{sliceDropped}
 
 -- the timestamps up to n are swept
@@ -38,10 +37,10 @@ module _ {timeline : List ℕ} {c : ℕ} {before : List Bool} where
 
       pub sweep-drop : instantsInRange timeline ≡ true → c ≤ timestamps → {i : ℕ} → i ≡ instantOf timeline (n + 1) → drops timeline c (n + 1) ≡ true
           → Swept timeline c before (sliceDropped present (groupOfCompleted i) (n + 1)) (n + 1)
-      unfolding swept instantsInRange
+      unfolding swept
       sweep-drop r h z e =
-          let coded = simp (below-iff, facts) at r in
-          let group : groupOfCompleted (getD timeline n 0) < groups = omega (arith, coded n (omega arith)) in
+          let coded = at-most-iff _ timeline .0 r n in
+          let group : groupOfCompleted (getD timeline n 0) < groups = omega (arith, coded) in
           record {
             within = omega arith;
             same =

@@ -3,9 +3,8 @@
 --     below-stop    a test that fails of one fails of all
 --     below-iff     it holds of all exactly if it does of each
 --     below-same    two tests that agree below n
---     below-first   the test of 0 apart from the rest
 use Prim.Native.Nat.{ℕ, zero, suc, _<_}
-use mathlib.Core.Bool.{Bool, true, false, _&&_, and-true, and-assoc, and-eq-true-iff}
+use mathlib.Core.Bool.{Bool, true, false, and-eq-true-iff}
 use mathlib.Core.Logic.{_↔_}
 use mathlib.Core.Path.{_≡_, refl, sym, _∙_}
 use native.Mathlib.Omega.{arith}
@@ -36,11 +35,6 @@ pub below-same : (p q : ℕ → Bool) (n : ℕ) → ((i : ℕ) → i < n → p i
 unfolding eachBelow
 below-same p q zero f = refl
 below-same p q (suc n) f = rw (below-same p q n (λ i l. f i (omega arith)), f n (omega arith))
-
-pub below-first : (p : ℕ → Bool) (n : ℕ) → eachBelow (suc n) p ≡ (p 0 && eachBelow n (λ i. p (suc i)))
-unfolding eachBelow
-below-first p zero = sym (and-true (p 0))
-below-first p (suc n) = rw (below-first p n) (and-assoc (p 0) _ (p (suc n)))
 
 pub below-iff : (n : ℕ) (p : ℕ → Bool) → (eachBelow n p ≡ true) ↔ ((i : ℕ) → i < n → p i ≡ true)
 below-iff n p = (below-at p n, below-all p n)

@@ -2,6 +2,7 @@
 --     same-below, none-below, one-below    two that agree, and one that is empty, at all places or but for one
 --     length-below                         one with at most m elements at each place
 --     each-listed                          what holds of the elements at each place holds of all
+--     mem-below                            an element at a place is one of all
 --     list-more, length-more               one number more
 --     list-rest, list-whole                the part below n, and where that is all
 --     sum-length                           the length as a sum
@@ -9,6 +10,7 @@ use Prim.Native.Nat.{ℕ, zero, suc, _+_, _-_, _*_, _≤_, _<_}
 use mathlib.Core.Path.{_≡_, refl, sym, _∙_, ap}
 use mathlib.Core.Logic.{_≢_, by-cases, ⊎-elim}
 use mathlib.Core.List.{List, [], _∷_, _++_, append-nil, append-assoc, List·Memᴰ, List·Memᴰ·not-nil, List·Memᴰ·append-cases}
+use mathlib.Core.List.{Memᴰ·append-left, Memᴰ·append-right}
 use native.Mathlib.Decide.{ℕ-discrete}
 use native.Mathlib.Numerals.{add-one}
 use native.Mathlib.Omega.{arith}
@@ -42,6 +44,12 @@ module _ {A : Type 0} where
   unfolding listBelow
   each-listed zero f P h x m = absurd (List·Memᴰ·not-nil m)
   each-listed (suc n) f P h x m = ⊎-elim (each-listed n f P h x) (h n x) (List·Memᴰ·append-cases (listBelow n f) m)
+
+  pub mem-below : {a : A} (n : ℕ) (f : ℕ → List A) (i : ℕ) → i < n → List·Memᴰ a (f i) → List·Memᴰ a (listBelow n f)
+  unfolding listBelow
+  mem-below zero f i lt m = absurd (omega arith)
+  mem-below (suc n) f i lt m =
+      by-cases (ℕ-discrete i n) (λ e. Memᴰ·append-right (listBelow n f) (rw e at m)) (λ ne. Memᴰ·append-left (f n) (mem-below n f i (omega arith) m))
 
 pub no-length : {A : Type 0} (l : List A) → length l ≡ 0 → l ≡ []
 no-length [] e = refl

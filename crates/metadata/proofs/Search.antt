@@ -9,12 +9,12 @@ use mathlib.Core.Path.{_≡_, refl, sym, _∙_, ap, subst}
 use lib.ListN.{length, length-append, getD}
 use lib.Dec.{eqb, ltb, leb}
 use borrow.Author.Tests.{le-ltb, ltb-false, eqb-true, eqb-false}
-use Rattle.common.specs.Counting.{listBelow}
+use Rattle.common.specs.Counting.{listBelow, upTo}
 use Rattle.common.proofs.Cases.{cond-iff, by-test, facts}
 use Rattle.model.specs.State.{newest, completed}
 use Rattle.model.proofs.CompletedInstants.{newest-hit, newest-miss, newest-of}
 use Rattle.metadata.specs.Largest.{largest}
-use Rattle.metadata.specs.Search.{upTo, isHit, searchGives, newestAbove}
+use Rattle.metadata.specs.Search.{isHit, searchGives, newestAbove}
 use Rattle.metadata.specs.declared.timeline.Search.{Search}
 use Rattle.metadata.specs.declared.timeline.Search.the-variants.{Hit, NoHit}
 

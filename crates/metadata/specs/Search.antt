@@ -1,19 +1,15 @@
 -- The search of the check step (document 02, Q-2).
-use Prim.Native.Nat.{ℕ, suc}
-use mathlib.Core.Bool.{Bool, cond, _&&_}
+use Prim.Native.Nat.{ℕ}
+use mathlib.Core.Bool.{Bool, _&&_}
 use mathlib.Core.List.{List, [], _∷_}
 use lib.ListN.{length}
 use lib.Dec.{eqb, ltb, leb}
-use Rattle.common.specs.Counting.{listBelow}
+use Rattle.common.specs.Counting.{upTo}
 use Rattle.model.specs.State.{completed}
 use Rattle.model.specs.Snapshot.{instantOf}
 use Rattle.metadata.specs.Largest.{largest}
 use Rattle.metadata.specs.declared.timeline.Search.{Search}
 use Rattle.metadata.specs.declared.timeline.Search.the-variants.{Hit, NoHit}
-
--- the numbers up to n of which a test holds, rising
-unfoldable pub upTo : ℕ → (ℕ → Bool) → List ℕ
-upTo n p = listBelow (suc n) (λ t. cond (p t) (t ∷ []) [])
 
 -- a hit: a timestamp above the base whose instant is completed in file group g
 abbrev pub isHit : List ℕ → ℕ → ℕ → ℕ → Bool

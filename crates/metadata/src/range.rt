@@ -4,8 +4,8 @@ ghost use mathlib.Core.Bool.{Bool, _&&_};
 ghost use mathlib.Core.List.{List};
 ghost use Prim.Native.Nat.{ℕ, max};
 ghost use lib.ListN.{drop};
-ghost use Rattle.model.specs.State.{State, stateOf};
-ghost use Rattle.model.specs.Range.{writerInRange, writersInRange, inRange};
+ghost use Rattle.model.specs.State.{Notes, State, notes, stateOf};
+ghost use Rattle.model.specs.Range.{writerInRange, writersInRange, notesInRange, inRange};
 ghost use Rattle.metadata.specs.Actor.{actorInRange};
 ghost use Rattle.metadata.specs.Inner.{keepsZeros};
 ghost use Rattle.model.specs.declared.Writer.{Writer};
@@ -13,11 +13,12 @@ ghost use Rattle.metadata.specs.Largest.{largest};
 ghost use Rattle.metadata.specs.Parts.{withParts};
 use model::Table;
 use model::Writer;
-use model::instants::COMPLETED;
+use model::instants::LARGEST;
 use model::instants::NONE;
 use model::limits::GROUPS;
 use model::limits::KEYS;
 use model::limits::LAST_PHASE;
+use model::limits::NOTED;
 use model::limits::TIMESTAMPS;
 use model::limits::WRITERS;
 
@@ -98,7 +99,7 @@ fn largest(numbers: &[u8], from: usize) -> u8
     most
 }
 
-// Are the horizon and the numbers that all writers share in range? If so, the writers decide.
+// Are the horizon and the numbers that all writers share in range? If so, the writers decide, and what is noted.
 fn shared_in_range<'a>(
     horizon: u8,
     last: u8,
@@ -106,8 +107,9 @@ fn shared_in_range<'a>(
     index: &'a [u8; KEYS],
     timeline: &'a [u8; TIMESTAMPS],
 ) -> bool
-    ensures { λ r. ⌜ ((st : State) (ws : List Writer) → st .horizon ≡ horizon
-        → inRange (withParts st last (now (locks .entry)) ws (now (index .entry)) (now (timeline .entry))) ≡ (r && writersInRange last ws)) ⌝ }
+    ensures { λ r. ⌜ ((st : State) (ws : List Writer) (n : Notes) → st .horizon ≡ horizon
+        → inRange (withParts st last (now (locks .entry)) ws (now (index .entry)) (now (timeline .entry)) n)
+        ≡ (r && (writersInRange last ws && notesInRange last n))) ⌝ }
 {
     if last > TIMESTAMPS as u8 {
         return false;
@@ -121,10 +123,28 @@ fn shared_in_range<'a>(
     if largest(index, 0) > GROUPS as u8 {
         return false;
     }
-    if largest(timeline, 0) >= COMPLETED + GROUPS as u8 {
+    if largest(timeline, 0) > LARGEST {
         return false;
     }
     largest(timeline, last as usize) == NONE
+}
+
+// Is what is noted for the candidates of a commit in range?
+fn notes_in_range<'a>(
+    last: u8,
+    places: &'a [u8; TIMESTAMPS],
+    counts: &'a [u8; WRITERS],
+    noted: &'a [u8; NOTED],
+) -> bool
+    ensures { λ r. ⌜ r ≡ notesInRange last (notes (now (places .entry)) (now (counts .entry)) (now (noted .entry))) ⌝ }
+{
+    if largest(places, 0) > TIMESTAMPS as u8 {
+        return false;
+    }
+    if largest(counts, 0) > TIMESTAMPS as u8 {
+        return false;
+    }
+    largest(noted, 0) <= last
 }
 
 // Is every stored number of a table in its range? The table comes in its parts, so that no caller copies it whole for the test, and the writers are
@@ -136,11 +156,18 @@ pub fn parts_in_range<'a>(
     writers: [Writer; WRITERS],
     index: &'a [u8; KEYS],
     timeline: &'a [u8; TIMESTAMPS],
+    places: &'a [u8; TIMESTAMPS],
+    counts: &'a [u8; WRITERS],
+    noted: &'a [u8; NOTED],
 ) -> bool
     ensures { λ r. ⌜ ((st : State) → st .horizon ≡ horizon
-        → r ≡ inRange (withParts st last (now (locks .entry)) writers (now (index .entry)) (now (timeline .entry)))) ⌝ }
+        → r ≡ inRange (withParts st last (now (locks .entry)) writers (now (index .entry)) (now (timeline .entry))
+        (notes (now (places .entry)) (now (counts .entry)) (now (noted .entry))))) ⌝ }
 {
     if !shared_in_range(horizon, last, locks, index, timeline) {
+        return false;
+    }
+    if !notes_in_range(last, places, counts, noted) {
         return false;
     }
     let mut w: usize = 0;
@@ -161,5 +188,18 @@ pub fn in_range(t: Table) -> bool
     let writers = t.writers;
     let index = t.index;
     let timeline = t.timeline;
-    parts_in_range(t.horizon, t.last, &locks, writers, &index, &timeline)
+    let places = t.places;
+    let counts = t.counts;
+    let noted = t.noted;
+    parts_in_range(
+        t.horizon,
+        t.last,
+        &locks,
+        writers,
+        &index,
+        &timeline,
+        &places,
+        &counts,
+        &noted,
+    )
 }

@@ -1,5 +1,5 @@
--- What holds of the outcome of every action (`act-sound`): it isn't answered 17, refused it changes nothing, a step that
--- is taken takes the lock that it should and no other, an ending frees the writer's locks, 5, 16 and 19 come in one mode each, and what is in range stays in range.
+-- What holds of the outcome of every action (`act-sound`): it isn't answered 17, refused it changes nothing, a step that is taken takes the lock that it
+-- should and no other, an ending frees the writer's locks, 5, 16 and 19 come in one mode each, and what is in range stays in range.
 use Prim.Native.Nat.{ℕ, suc, _+_, _<_, _≤_, zero-le}
 use native.Mathlib.Nat.{le-refl, le-trans}
 use native.Mathlib.Omega.{arith}
@@ -37,30 +37,30 @@ begun-ranged (Remove k) n h = omega arith
 
 -- a setter keeps what is in range, if the new field is
 module _ {s : Shared} (f : SharedRanged s) where
-  with-locks : {l : List ℕ} → ((p : ℕ) → p < groups → getD l p 0 ≤ writers) → SharedRanged (withLocks s l)
+  with-locks : {l : List ℕ} → ((p : ℕ) → getD l p 0 ≤ writers) → SharedRanged (withLocks s l)
   with-locks h = search
 
   -- every lock in range, after a step of writer w that may take one, and after its end
-  locked : (mode : Mode) (x : Writer) (w : ℕ) → w < writers → (p : ℕ) → p < groups → getD (locking mode x (w + 1) (s .locks)) p 0 ≤ writers
+  locked : (mode : Mode) (x : Writer) (w : ℕ) → w < writers → (p : ℕ) → getD (locking mode x (w + 1) (s .locks)) p 0 ≤ writers
   locked mode x w there =
-      simp (cond-iff (λ (l : List ℕ). (p : ℕ) → p < groups → getD l p 0 ≤ writers))
-      (λ _. set-ind (λ p l. p < groups → l ≤ writers) (s .locks) (guard mode (x .group)) (w + 1) 0 (λ _. omega arith) (f .lock), λ _. f .lock)
+      simp (cond-iff (λ (l : List ℕ). (p : ℕ) → getD l p 0 ≤ writers))
+      (λ _. set-ind (λ p l. l ≤ writers) (s .locks) (guard mode (x .group)) (w + 1) 0 (omega arith) (f .lock), λ _. f .lock)
 
-  unlocked : (w p : ℕ) → p < groups → getD (freed w (s .locks)) p 0 ≤ writers
-  unlocked w p small = rw (freed-at w (s .locks) p) (simp (cond-iff (λ l. l ≤ writers)) (λ _. zero-le, λ _. f .lock p small))
+  unlocked : (w p : ℕ) → getD (freed w (s .locks)) p 0 ≤ writers
+  unlocked w p = rw (freed-at w (s .locks) p) (simp (cond-iff (λ l. l ≤ writers)) (λ _. zero-le, λ _. f .lock p))
 
-  with-index : {i : List ℕ} → ((k : ℕ) → k < keys → getD i k 0 ≤ groups) → SharedRanged (withIndex s i)
+  with-index : {i : List ℕ} → ((k : ℕ) → getD i k 0 ≤ groups) → SharedRanged (withIndex s i)
   with-index h = search
 
   -- every entry in range, after one of them is set
-  entered : (k e : ℕ) → e ≤ groups → (j : ℕ) → j < keys → getD (set (s .index) k e) j 0 ≤ groups
-  entered k e h = set-ind (λ j v. j < keys → v ≤ groups) (s .index) k e 0 (λ _. h) (f .entry)
+  entered : (k e : ℕ) → e ≤ groups → (j : ℕ) → getD (set (s .index) k e) j 0 ≤ groups
+  entered k e h = set-ind (λ j v. v ≤ groups) (s .index) k e 0 h (f .entry)
 
   with-rows : {p : List Bool} {v : List ℕ} → SharedRanged (withValues (withPresent s p) v)
   with-rows = search
 
   -- the last timestamp and the timeline
-  with-times : {m : ℕ} {t : List ℕ} → m ≤ timestamps → ((i : ℕ) → i < timestamps → InstantRanged m i (getD t i 0))
+  with-times : {m : ℕ} {t : List ℕ} → m ≤ timestamps → ((i : ℕ) → InstantRanged m i (getD t i 0))
       → SharedRanged (withTimeline (withLast s m) t)
   with-times h g = search
 
@@ -69,9 +69,8 @@ module _ {s : Shared} (f : SharedRanged s) where
       → SharedRanged (withTimeline (withLast s m) (set (s .timeline) i y))
   with-instant {m} {i} {y} (g, t, l, c) =
       with-times t
-      (set-ind (λ j v. j < timestamps → InstantRanged m j v) (s .timeline) i y 0
-      (λ _. record { coded = c; above = λ a. absurd (omega arith) })
-      (λ j b. record { coded = f .instant j b .coded; above = λ a. f .instant j b .above (le-trans g a) }))
+      (set-ind (InstantRanged m) (s .timeline) i y 0 (record { coded = c; above = λ a. absurd (omega arith) })
+      (λ j. record { coded = f .instant j .coded; above = λ a. f .instant j .above (le-trans g a) }))
 
 -- after an action all is in range, and no timestamp is taken back
 pub record OutcomeRanged (last : ℕ) (o : Outcome) : Type 0 where
@@ -127,7 +126,7 @@ module _ (mode : Mode) (x : Writer) (w : ℕ) (s : Shared) where
               shared =
                   with-locks
                   (with-index (k f g)
-                  (simp (cond-iff (λ (i : List ℕ). (j : ℕ) → j < keys → getD i j 0 ≤ groups)) (λ _. entered (k f g) _ _ zero-le, λ _. k f g .entry)))
+                  (simp (cond-iff (λ (i : List ℕ). (j : ℕ) → getD i j 0 ≤ groups)) (λ _. entered (k f g) _ _ zero-le, λ _. k f g .entry)))
                   (unlocked (k f g) w);
               writer = ready-ranged _;
               grows = omega arith;
@@ -174,7 +173,7 @@ module _ (mode : Mode) (x : Writer) (w : ℕ) (s : Shared) where
       accepts refl (untaken (omega (arith, lock-phase mode)))
       (λ _ f _. record { shared = with-instant f (omega arith); writer = begun-ranged op (s .last + 1) (omega arith); grows = omega arith })
   ruling-sound (hasFound p i) =
-      moves refl (untaken (omega (arith, lock-phase mode))) p (omega arith) (λ _ f g. (omega (arith, f .entry (x .key) (g .key)), g .base, f))
+      moves refl (untaken (omega (arith, lock-phase mode))) p (omega arith) (λ _ f g. (omega (arith, f .entry (x .key)), g .base, f))
   ruling-sound (hasProposed p put) = moves refl (untaken (omega (arith, lock-phase mode))) p (omega arith) same
   ruling-sound (hasRead p free le) =
       moves refl refl p (omega arith)

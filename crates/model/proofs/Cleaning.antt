@@ -72,7 +72,7 @@ module _ (st : State) (c : ℕ) (fine : inRange st ≡ true) (high : c ≤ st .s
   sh = st .shared
 
   coded : (i : ℕ) → i < timestamps → getD (sh .timeline) i 0 < completed groups
-  coded i lt = ranged st fine .shared .instant i lt .coded
+  coded i lt = ranged st fine .shared .instant i .coded
 
   issued : c ≤ timestamps
   issued = omega (arith, ranged st fine .shared .last)
@@ -114,6 +114,7 @@ module _ (st : State) (c : ℕ) (fine : inRange st ≡ true) (high : c ≤ st .s
         horizon = high;
         shared = record { last = r .shared .last; lock = r .shared .lock; entry = r .shared .entry; instant = r .shared .instant };
         writer = r .writer;
+        notes = r .notes;
       })
 
 pub clean-in-range : (st : State) (c : ℕ) → inRange st ≡ true → (inRange (clean st c .state) ≡ true) × (clean st c .answer ≢ outOfRange)
@@ -140,6 +141,7 @@ clean-lengths st c h = go (clean-rules st c)
                 present = swept-length _ c (coded st c fine high) (st .shared .present) c ∙ l .present;
                 values = l .values;
               };
+          notes = h .notes;
         }
 
 pub clean-rises : (st : State) (c : ℕ) → st .horizon ≤ clean st c .state .horizon
@@ -157,7 +159,7 @@ clean-twice st c h = go (clean-rules st c) refl
     go (isRefused n p q) e = ap (λ (a : Answered). a .state) e
     go (isTaken fine low high kept) e =
         rw (cleaned-in-range st c fine high, le-ltb c c (omega arith), le-ltb (st .shared .last) c high, kept)
-        (ap (λ (ps : List Bool). record { mode = st .mode; horizon = c; shared = withPresent (st .shared) ps; writers = st .writers })
+        (ap (λ (ps : List Bool). record { mode = st .mode; horizon = c; shared = withPresent (st .shared) ps; writers = st .writers; notes = st .notes })
         (swept-again (st .shared .timeline) c (coded st c fine high) (st .shared .present) (h .shared .present) c c (omega arith) (issued st c fine high)))
 
 -- by the completed instants: what `KeptAt` says of a timestamp

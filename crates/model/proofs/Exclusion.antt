@@ -114,7 +114,7 @@ abort-frees mode es w p small held =
     let h = reached mode es in
     rw (
       h .ranged,
-      lt-leb writers w (omega (arith, ranged (u .state) (h .ranged) .shared .lock p small)),
+      lt-leb writers w (omega (arith, ranged (u .state) (h .ranged) .shared .lock p)),
       ne-eqb (viewOf u .writer w .phase) 0 (omega (arith, h .invariant .writer w .holds p held)),
       freed-at w (u .state .shared .locks) p,
       eq-eqb (lockAt (u .state) p) (w + 1) held,

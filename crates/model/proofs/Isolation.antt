@@ -29,7 +29,7 @@ use Rattle.model.proofs.StepMoves.{viewOf, Consistent}
 use Rattle.model.proofs.EventChanges.{event-changes, event-consistent}
 use Rattle.model.proofs.Listing.{in-slice, scan-listed}
 
-fresh-completed : (s : ℕ) → completedAt (replicate timestamps 0) s ≡ none
+pub fresh-completed : (s : ℕ) → completedAt (replicate timestamps 0) s ≡ none
 unfolding groupCompleted
 fresh-completed zero = refl
 fresh-completed (suc n) = ap groupCompleted (getD-fresh timestamps n 0)
@@ -39,7 +39,7 @@ fresh-slice : (g s : ℕ) → (0 < s → completedAt (replicate timestamps 0) s 
 fresh-slice g zero hit = fun-ext (cell-zero _ _ g)
 fresh-slice g (suc s) hit = absurd (none-some (fresh-completed (suc s)) (hit (omega arith)))
 
-fresh-writer : (mode : Mode) (w : ℕ) → viewOf (beginning mode) .writer w ≡ ready
+pub fresh-writer : (mode : Mode) (w : ℕ) → viewOf (beginning mode) .writer w ≡ ready
 unfolding fresh
 fresh-writer mode w = getD-fresh writers w ready
 

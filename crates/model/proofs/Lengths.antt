@@ -4,7 +4,7 @@ use mathlib.Core.Path.{_≡_, _∙_}
 use mathlib.Core.List.{List}
 use mathlib.Core.Bool.{Bool, false}
 use lib.ListN.{length, getD, set, length-set, length-map, length-replicate}
-use Rattle.model.specs.Limits.{writers, keys, groups, timestamps, rows}
+use Rattle.model.specs.Limits.{writers, keys, groups, timestamps, rows, noted}
 use Rattle.model.specs.State.{Shared, State, withLast, withLocks, withIndex, withTimeline, withPresent, withValues, ready, fresh}
 use Rattle.model.specs.Answers.{committed}
 use Rattle.model.specs.Rules.{locking, Verdict, closed, carried, act, Answered, stepTested, step}
@@ -16,6 +16,7 @@ use Rattle.common.proofs.Cases.{cond-iff}
 use Rattle.model.proofs.Outcomes.{Ruling, isRefused, isEnded, rules}
 use Rattle.model.proofs.Outcomes.{hasStarted, hasFound, hasProposed, hasRead, hasWritten, hasEntered, hasChecked, hasCommitted}
 use Rattle.model.proofs.Slices.{sliced-length}
+use Rattle.model.proofs.Notes.{NotesLengths, notes-lengths}
 
 pub record SharedLengths (s : Shared) : Type 0 where
   pub locks : length (s .locks) ≡ groups
@@ -27,6 +28,7 @@ pub record SharedLengths (s : Shared) : Type 0 where
 pub record StateLengths (st : State) : Type 0 where
   pub writers : length (st .writers) ≡ writers
   pub shared : SharedLengths (st .shared)
+  pub notes : NotesLengths (st .notes)
 
 -- a setter keeps the lengths, if the new list has the old one's
 module _ {s : Shared} (h : SharedLengths s) where
@@ -86,6 +88,7 @@ step-lengths st s h =
             record {
               writers = length-set (st .writers) w _ ∙ h .writers;
               shared = ruling-lengths (st .mode) x w (st .shared) (rules (st .mode) x w (st .shared) (s .action)) (h .shared);
+              notes = notes-lengths (st .notes) w (s .action) _ _ (st .writers) _ (h .notes);
             },
       ),
     )
@@ -102,5 +105,11 @@ fresh-lengths mode =
             timeline = length-replicate {A = ℕ} timestamps 0;
             present = length-replicate rows false;
             values = length-replicate {A = ℕ} rows 0;
+          };
+      notes =
+          record {
+            places = length-replicate {A = ℕ} timestamps 0;
+            counts = length-replicate {A = ℕ} writers 0;
+            noted = length-replicate {A = ℕ} noted 0;
           };
     }

@@ -8,6 +8,7 @@ use mathlib.Core.Option.{Option, none, some}
 use Rattle.common.specs.Counting.{upd}
 use Rattle.model.specs.Modes.{guard, afterIndex}
 use Rattle.model.specs.State.{ready}
+use Rattle.model.specs.Notes.{heldBy}
 use Rattle.model.specs.Rules.{putsErased, begun, moved, withMade, takesLock, released}
 use Rattle.model.specs.History.{Pending, History, startRecorded, commitRecorded, endRecorded}
 use Rattle.model.specs.declared.Mode.{Mode}
@@ -16,6 +17,14 @@ use Rattle.model.specs.declared.Operation.{Operation}
 use Rattle.model.specs.declared.Action.the-variants.{Start}
 use Rattle.model.proofs.Newest.{Newest}
 use Rattle.model.proofs.Locks.{takenIf}
+use Rattle.model.proofs.Notes.{amongst}
+
+-- what is noted for the candidates of a commit
+pub record NotesView : Type 0 where
+  pub completions : ℕ  -- how many instants are completed
+  pub place : ℕ → ℕ  -- of each timestamp
+  pub count : ℕ → ℕ  -- of each writer
+  pub noted : ℕ → ℕ → Bool  -- has the writer noted the timestamp
 
 pub record View : Type 0 where
   pub mode : Mode
@@ -28,6 +37,7 @@ pub record View : Type 0 where
   pub writer : ℕ → Writer
   pub history : History
   pub stored : ℕ → ℕ → Option ℕ  -- the slices that the write steps stored, by timestamp
+  pub notes : NotesView
 
 -- what a writer with its operation leaves at the key
 abbrev pub leaves : Writer → Option ℕ
@@ -39,6 +49,25 @@ rowsStored cell x = upd (cell (x .group) (x .base)) (x .key) (leaves x)
 
 abbrev pub storing : (ℕ → ℕ → ℕ → Option ℕ) → Writer → ℕ → ℕ → ℕ → Option ℕ
 storing cell x = upd cell (x .group) (upd (cell (x .group)) (x .ts) (rowsStored cell x))
+
+-- writer w's operation starts, where the writers are these
+abbrev pub startNoted : NotesView → (ℕ → Writer) → ℕ → NotesView
+startNoted n writer w =
+    record {
+      completions = n .completions;
+      place = n .place;
+      count = upd (n .count) w (n .completions);
+      noted = upd (n .noted) w (amongst (λ u. heldBy (writer u)));
+    }
+
+-- it ends, or commits: the writer keeps neither its count nor what it has noted
+abbrev pub endNoted : NotesView → ℕ → NotesView
+endNoted n w = record { completions = n .completions; place = n .place; count = upd (n .count) w 0; noted = upd (n .noted) w (amongst (λ u. 0)) }
+
+-- the instant of timestamp t is completed
+abbrev pub completionNoted : NotesView → ℕ → NotesView
+completionNoted n t =
+    record { completions = n .completions + 1; place = upd (n .place) t (n .completions + 1); count = n .count; noted = n .noted }
 
 -- writer w starts an operation
 abbrev pub afterStart : View → ℕ → Operation → View
@@ -54,6 +83,7 @@ afterStart v w op =
       writer = upd (v .writer) w (begun op (v .last + 1));
       history = startRecorded (v .history) w (Start op);
       stored = v .stored;
+      notes = startNoted (v .notes) (v .writer) w;
     }
 
 -- writer w goes on as x, with the locks, the index, the slices and what is stored given
@@ -70,6 +100,7 @@ afterPhase v w x lock entry cell stored =
       writer = upd (v .writer) w x;
       history = v .history;
       stored = stored;
+      notes = v .notes;
     }
 
 -- writer w's operation ends without commit; the index entry that it made is taken out
@@ -86,6 +117,7 @@ afterEnd v w =
       writer = upd (v .writer) w ready;
       history = endRecorded (v .history) w;
       stored = v .stored;
+      notes = endNoted (v .notes) w;
     }
 
 -- writer w commits its pending operation p
@@ -102,6 +134,7 @@ afterCommit v w p =
       writer = upd (v .writer) w ready;
       history = commitRecorded (v .history) w (λ n. v .writer w .group) (some p);
       stored = v .stored;
+      notes = endNoted (completionNoted (v .notes) (v .writer w .ts)) w;
     }
 
 -- a clean at the timestamp c, after which the slices are those of `cell`
@@ -118,6 +151,7 @@ afterClean v c cell =
       writer = v .writer;
       history = v .history;
       stored = v .stored;
+      notes = v .notes;
     }
 
 -- the lock that guards the file group of writer x

@@ -16,25 +16,28 @@ use Rattle.model.specs.Limits.{writers}
 use Rattle.model.specs.Answers.{outOfRange}
 use Rattle.common.specs.Counting.{eachBelow}
 use Rattle.model.specs.State.{State, ready, fresh}
-use Rattle.model.specs.Range.{writersInRange, locksInRange, indexInRange, instantsInRange, noneAbove, inRange}
+use Rattle.model.specs.Range.{writersInRange, allAtMost, inRange}
 use Rattle.model.specs.Rules.{Outcome, act, Answered, updated, stepTested, step}
 use Rattle.model.specs.Cleaning.{clean}
 use Rattle.model.specs.Isolation.{Event, takesStep, cleansAt, Execution, next, after}
 use Rattle.model.specs.declared.Mode.{Mode}
 use Rattle.model.specs.declared.Writer.{Writer}
+use Rattle.model.specs.declared.Action.{Action}
 use Rattle.model.specs.declared.Step.{Step}
 use Rattle.common.proofs.Cases.{cond-iff, facts, set-ind}
 use Rattle.model.proofs.Ranged.{WriterRanged, Ranged, ranged, in-range}
 use Rattle.model.proofs.Executed.{executed-keeps}
 use Rattle.model.proofs.Actions.{OutcomeRanged, act-sound}
+use Rattle.model.proofs.Notes.{notes-ranged}
 use Rattle.model.proofs.Cleaning.{clean-in-range}
 
 later-ranged : {last n : ℕ} {x : Writer} → last ≤ n → WriterRanged last x → WriterRanged n x
 later-ranged h g =
     record { key = g .key; group = g .group; phase = g .phase; ts = le-trans (g .ts) h; base = le-trans (g .base) h; issued = g .issued }
 
-updated-ranged : (st : State) (w : ℕ) (o : Outcome) → Ranged st → OutcomeRanged (st .shared .last) o → Ranged (updated st w o .state)
-updated-ranged st w o r k =
+updated-ranged : (st : State) (w : ℕ) (a : Action) (o : Outcome) → w < writers → Ranged st → OutcomeRanged (st .shared .last) o
+    → Ranged (updated st w a o .state)
+updated-ranged st w a o there r k =
     record {
       horizon = le-trans (r .horizon) (k .grows);
       shared = k .shared;
@@ -42,6 +45,7 @@ updated-ranged st w o r k =
           set-ind (λ v y. v < writers → WriterRanged (o .shared .last) y) (st .writers) w (o .writer) ready
           (λ _. k .writer)
           (λ v l. later-ranged (k .grows) (r .writer v l));
+      notes = notes-ranged st w a o there r k;
     }
 
 module _ (st : State) (s : Step) (e : inRange st ≡ true) where
@@ -49,8 +53,14 @@ module _ (st : State) (s : Step) (e : inRange st ≡ true) where
   unfolding step stepTested
   step-in-range =
       let r : Ranged st = ranged st e in
-      simp (cond-iff (λ (a : Answered). inRange (a .state) ≡ true), facts)
-      (λ _. e, λ _. (λ _. e, λ l. in-range _ (updated-ranged st (s .writer) (act _ _ _ _ _) r (act-sound _ _ _ _ _ .kept l (r .shared) (r .writer (s .writer) l)))))
+      simp (cond-iff (λ (a : Answered). inRange (a .state) ≡ true), facts) (
+        λ _. e,
+        λ _. (
+          λ _. e,
+          λ l. let k = act-sound _ _ _ _ (s .action) .kept l (r .shared) (r .writer (s .writer) l) in
+              in-range _ (updated-ranged st (s .writer) (s .action) (act _ _ _ _ _) l r k),
+        ),
+      )
 
   pub answer-in-range : step st s .answer ≢ outOfRange
   unfolding step stepTested
@@ -59,7 +69,7 @@ module _ (st : State) (s : Step) (e : inRange st ≡ true) where
       (λ h. absurd (true≢false (sym e ∙ h)), λ _. (λ _. omega arith, λ _. act-sound _ _ _ _ (s .action) .answer))
 
 pub fresh-in-range : (mode : Mode) → inRange (fresh mode) ≡ true
-unfolding inRange writersInRange locksInRange indexInRange instantsInRange noneAbove eachBelow fresh
+unfolding inRange writersInRange allAtMost eachBelow fresh
 fresh-in-range mode = refl
 
 pub event-in-range : (u : Execution) (e : Event) → inRange (u .state) ≡ true → inRange (next u e .state) ≡ true

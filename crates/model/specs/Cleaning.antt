@@ -3,11 +3,11 @@ use Prim.Native.Nat.{ℕ, zero, suc}
 use mathlib.Core.Bool.{Bool, false, cond, not, _&&_, _||_}
 use mathlib.Core.List.{List}
 use lib.ListN.{getD}
-use lib.Dec.{eqb, ltb, leb}
+use lib.Dec.{eqb, ltb}
 use Rattle.model.specs.Limits.{writers, keys}
 use Rattle.model.specs.Answers.{taken, outOfRange, baseNeeded, noHorizon}
 use Rattle.common.specs.Counting.{eachBelow}
-use Rattle.model.specs.State.{State, ready, completed, groupOfCompleted, newest, withPresent}
+use Rattle.model.specs.State.{State, ready, hasCompleted, groupOfCompleted, newest, withPresent}
 use Rattle.model.specs.Range.{inRange}
 use Rattle.model.specs.Rules.{copied, Answered, answered}
 use Rattle.model.specs.Snapshot.{instantOf}
@@ -15,7 +15,7 @@ use Rattle.model.specs.declared.Writer.{Writer}
 
 -- is an instant i of timestamp n completed, and not the newest one of its file group at or below c, nor newer than that
 abbrev pub superseded : List ℕ → ℕ → ℕ → ℕ → Bool
-superseded timeline c n i = leb (completed 0) i && ltb n (newest timeline (groupOfCompleted i) c)
+superseded timeline c n i = hasCompleted i && ltb n (newest timeline (groupOfCompleted i) c)
 
 -- does a clean at c drop the slice of timestamp n; timestamp 0, which has no instant, has none to drop
 unfoldable pub drops : List ℕ → ℕ → ℕ → Bool
@@ -41,6 +41,7 @@ cleaned st c =
       horizon = c;
       shared = withPresent (st .shared) (swept (st .shared .timeline) c (st .shared .present) c);
       writers = st .writers;
+      notes = st .notes;
     }
 
 -- would a writer lose its base: it is at phase 3, where the next step copies the base, and a clean at c drops it, in whatever file group the base's

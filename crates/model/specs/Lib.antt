@@ -1,11 +1,13 @@
 pub mod Limits
 pub mod Modes
 pub mod State
+pub mod Notes
 pub mod Rules
 pub mod Answers
 pub mod Range
 pub mod Snapshot
 pub mod Cleaning
+pub mod Candidates
 pub mod History
 pub mod Isolation
 pub mod Binding

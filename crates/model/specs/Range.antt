@@ -1,12 +1,12 @@
 -- The grounds of answer 17 (document 01, below the answer numbers), one test each. A value needs none, nor does a flag: its type is its range.
-use Prim.Native.Nat.{ℕ}
-use mathlib.Core.Bool.{Bool, _||_}
+use Prim.Native.Nat.{ℕ, _-_}
+use mathlib.Core.Bool.{Bool, true, _&&_, _||_}
 use mathlib.Core.List.{List, [], _∷_}
-use lib.ListN.{getD}
+use lib.ListN.{getD, drop}
 use lib.Dec.{eqb, ltb, leb}
 use Rattle.model.specs.Limits.{writers, keys, groups, timestamps, lastPhase}
 use Rattle.common.specs.Counting.{every, eachBelow}
-use Rattle.model.specs.State.{State, ready, completed}
+use Rattle.model.specs.State.{Notes, State, ready, completed}
 use Rattle.model.specs.declared.Writer.{Writer}
 
 -- a writer's numbers, where `last` is the last timestamp issued; off phase 0 it has a timestamp
@@ -21,21 +21,30 @@ writerInRange last x = every (writerTests last x)
 unfoldable pub writersInRange : ℕ → List Writer → Bool
 writersInRange last xs = eachBelow writers (λ w. writerInRange last (getD xs w ready))
 
+-- each of some numbers is at most n
+unfoldable pub allAtMost : ℕ → List ℕ → Bool
+allAtMost n [] = true
+allAtMost n (x ∷ xs) = leb x n && allAtMost n xs
+
 -- each lock, in either mode: 0, or a writer + 1 (document 02, Q-9)
-unfoldable pub locksInRange : List ℕ → Bool
-locksInRange locks = eachBelow groups (λ g. leb (getD locks g 0) writers)
+abbrev pub locksInRange : List ℕ → Bool
+locksInRange locks = allAtMost writers locks
 
 -- an index entry: 0, or a file group + 1
-unfoldable pub indexInRange : List ℕ → Bool
-indexInRange index = eachBelow keys (λ k. leb (getD index k 0) groups)
+abbrev pub indexInRange : List ℕ → Bool
+indexInRange index = allAtMost groups index
 
--- an instant's file group
-unfoldable pub instantsInRange : List ℕ → Bool
-instantsInRange timeline = eachBelow timestamps (λ i. ltb (getD timeline i 0) (completed groups))
+-- an instant: at most that of the last file group, completed
+abbrev pub instantsInRange : List ℕ → Bool
+instantsInRange timeline = allAtMost (completed (groups - 1)) timeline
 
 -- no instant is kept above the last timestamp issued
-unfoldable pub noneAbove : ℕ → List ℕ → Bool
-noneAbove last timeline = eachBelow timestamps (λ i. ltb i last || eqb (getD timeline i 0) 0)
+abbrev pub noneAbove : ℕ → List ℕ → Bool
+noneAbove last timeline = allAtMost 0 (drop last timeline)
+
+-- what is noted: places and counts at most the number of timestamps, noted timestamps at most the last issued (document 02, Q-12)
+abbrev pub notesInRange : ℕ → Notes → Bool
+notesInRange last n = every (allAtMost timestamps (n .places) ∷ allAtMost timestamps (n .counts) ∷ allAtMost last (n .noted) ∷ [])
 
 -- every stored number of a table is in its range: 17 is given exactly where this is false
 unfoldable pub inRange : State → Bool
@@ -44,8 +53,9 @@ inRange st =
     (leb (st .shared .last) timestamps
     ∷ leb (st .horizon) (st .shared .last)
     ∷ locksInRange (st .shared .locks)
-    ∷ writersInRange (st .shared .last) (st .writers)
     ∷ indexInRange (st .shared .index)
     ∷ instantsInRange (st .shared .timeline)
     ∷ noneAbove (st .shared .last) (st .shared .timeline)
+    ∷ writersInRange (st .shared .last) (st .writers)
+    ∷ notesInRange (st .shared .last) (st .notes)
     ∷ [])

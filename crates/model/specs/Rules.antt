@@ -11,6 +11,7 @@ use Rattle.model.specs.Answers.{noWriter, noKey, noGroup, wrongPhase, no
 use Rattle.model.specs.Modes.{guard, lockPhase, afterIndex, mayCheck}
 use Rattle.model.specs.State.{Shared, State, ready, requested, inflight, completed, newest, rowAt, rowIn}
 use Rattle.model.specs.State.{withLast, withLocks, withIndex, withTimeline, withPresent, withValues}
+use Rattle.model.specs.Notes.{notesAfter}
 use Rattle.model.specs.Range.{inRange}
 use Rattle.model.specs.declared.Mode.{Mode}
 use Rattle.model.specs.declared.Writer.{Writer}
@@ -217,9 +218,17 @@ pub record Answered : Type 0 where
 abbrev pub answered : ℕ → State → Answered
 answered n st = record { answer = n; state = st }
 
--- the outcome of writer w's action in the whole state
-abbrev pub updated : State → ℕ → Outcome → Answered
-updated st w o = answered (o .answer) (record { mode = st .mode; horizon = st .horizon; shared = o .shared; writers = set (st .writers) w (o .writer) })
+-- the outcome of writer w's action in the whole state; what is noted goes by the action and its answer (document 02, Q-12)
+abbrev pub updated : State → ℕ → Action → Outcome → Answered
+updated st w a o =
+    answered (o .answer)
+    (record {
+      mode = st .mode;
+      horizon = st .horizon;
+      shared = o .shared;
+      writers = set (st .writers) w (o .writer);
+      notes = notesAfter (st .notes) w a (o .answer) (getD (st .writers) w ready .ts) (st .writers) (o .shared .timeline);
+    })
 
 -- the record of writer w
 abbrev pub writerOf : State → ℕ → Writer
@@ -230,7 +239,7 @@ unfoldable pub stepTested : Bool → State → Step → Answered
 stepTested tested st s =
     cond (not tested) (answered outOfRange st)
     (cond (leb writers (s .writer)) (answered noWriter st)
-    (updated st (s .writer) (act (st .mode) (writerOf st (s .writer)) (s .writer) (st .shared) (s .action))))
+    (updated st (s .writer) (s .action) (act (st .mode) (writerOf st (s .writer)) (s .writer) (st .shared) (s .action))))
 
 -- one step
 unfoldable pub step : State → Step → Answered

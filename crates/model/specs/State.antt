@@ -4,8 +4,8 @@ use mathlib.Core.Bool.{Bool, false, cond, _&&_}
 use mathlib.Core.List.{List}
 use mathlib.Core.Option.{Option, none, some}
 use lib.ListN.{getD, replicate}
-use lib.Dec.{eqb, ltb}
-use Rattle.model.specs.Limits.{writers, keys, groups, timestamps, rows}
+use lib.Dec.{eqb, ltb, leb}
+use Rattle.model.specs.Limits.{writers, keys, groups, timestamps, rows, noted}
 use Rattle.model.specs.declared.Mode.{Mode}
 use Rattle.model.specs.declared.Writer.{Writer}
 use Rattle.model.specs.declared.Table.{Table}
@@ -19,12 +19,23 @@ pub record Shared : Type 0 where
   pub present : List Bool  -- has the slice of group g and timestamp n a row of key k, at `rowAt g n k`
   pub values : List ℕ  -- and the row's value
 
--- the mode and the horizon stand beside what a rule may change, so that no step changes them (document 02, Q-9 and Q-13)
+-- what is noted for the candidates of a commit (document 02, Q-12)
+pub record Notes : Type 0 where
+  pub places : List ℕ  -- the place of timestamp n in the order of completions, at n - 1, or 0
+  pub counts : List ℕ  -- of each writer: how many instants had completed when its operation started
+  pub noted : List ℕ  -- the timestamp that writer u's operation in progress held when that of writer w started, at `noteAt w u`, or 0
+
+-- the mode and the horizon stand beside what a rule may change, so that no step changes them (document 02, Q-9 and Q-13); so do the notes, which every
+-- rule leaves alone
 pub record State : Type 0 where
   pub mode : Mode
   pub horizon : ℕ  -- the timestamp of the last clean that was taken, or 0
   pub shared : Shared
   pub writers : List Writer
+  pub notes : Notes
+
+abbrev pub notes : List ℕ → List ℕ → List ℕ → Notes
+notes places counts noted = record { places = places; counts = counts; noted = noted }
 
 -- the state of a table and its rows
 abbrev pub stateOf : Table → List Bool → List ℕ → State
@@ -34,13 +45,14 @@ stateOf t present values =
       horizon = t .horizon;
       shared = record { last = t .last; locks = t .locks; index = t .index; timeline = t .timeline; present = present; values = values };
       writers = t .writers;
+      notes = notes (t .places) (t .counts) (t .noted);
     }
 
 -- a ready writer has no operation, no timestamp and no base (document 01, A writer's walk, end)
 abbrev pub ready : Writer
 ready = record { phase = 0; put = false; made = false; key = 0; group = 0; ts = 0; base = 0; value = 0 }
 
--- a fresh table of a mode: nothing issued, indexed, locked or cleaned, and all writers ready (document 01, What the engine holds); no row is present,
+-- a fresh table of a mode: nothing issued, indexed, locked, cleaned or noted, and all writers ready (document 01, What the engine holds); no row is present,
 -- each value is 0
 unfoldable pub fresh : Mode → State
 fresh mode =
@@ -57,6 +69,7 @@ fresh mode =
             values = replicate rows 0;
           };
       writers = replicate writers ready;
+      notes = notes (replicate timestamps 0) (replicate writers 0) (replicate noted 0);
     }
 
 -- an instant is one number: 0 none, 1 requested, then inflight in each file group, then completed in each
@@ -69,9 +82,18 @@ inflight g = 2 + g
 abbrev pub completed : ℕ → ℕ
 completed g = 2 + groups + g
 
+-- is an instant completed, in any file group
+abbrev pub hasCompleted : ℕ → Bool
+hasCompleted i = leb (completed 0) i
+
 -- the file group of a completed instant
 abbrev pub groupOfCompleted : ℕ → ℕ
 groupOfCompleted i = i - completed 0
+
+-- what a list with a number for each timestamp has for timestamp n; timestamp 0 has none
+abbrev pub atTimestamp : List ℕ → ℕ → ℕ
+atTimestamp l zero = 0
+atTimestamp l (suc i) = getD l i 0
 
 -- the largest completed timestamp of file group g at or below n, or 0
 unfoldable pub newest : List ℕ → ℕ → ℕ → ℕ
@@ -81,6 +103,10 @@ newest timeline g (suc n) = cond (eqb (getD timeline n 0) (completed g)) (suc n)
 -- the place of the row of key k in the slice of file group g and timestamp n
 abbrev pub rowAt : ℕ → ℕ → ℕ → ℕ
 rowAt g n k = ((n - 1) * groups + g) * keys + k
+
+-- the place of what writer w has noted of writer u
+abbrev pub noteAt : ℕ → ℕ → ℕ
+noteAt w u = w * writers + u
 
 -- what `rows` has for key k in the slice of file group g and timestamp n; timestamp 0 has no slice
 abbrev pub rowIn : {A : Type 0} → A → List A → ℕ → ℕ → ℕ → A

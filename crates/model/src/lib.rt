@@ -6,6 +6,7 @@ pub mod limits;
 use common::Word;
 use limits::GROUPS;
 use limits::KEYS;
+use limits::NOTED;
 use limits::TIMESTAMPS;
 use limits::WRITERS;
 
@@ -46,6 +47,12 @@ pub struct Table {
     pub index: [u8; KEYS],
     // The instant of timestamp n, at n - 1, as the module instants codes it.
     pub timeline: [u8; TIMESTAMPS],
+    // The place of timestamp n in the order of completions, at n - 1: 0 before its commit.
+    pub places: [u8; TIMESTAMPS],
+    // Of each writer: how many instants had completed when its operation started.
+    pub counts: [u8; WRITERS],
+    // A row of WRITERS timestamps for each writer: those that the operations in progress held when its operation started, 0 for none.
+    pub noted: [u8; NOTED],
 }
 
 // What a start carries.
@@ -95,6 +102,19 @@ pub enum Found {
     Refused(u8),
     Absent,
     Present { value: Value, group: u8 },
+}
+
+// Instants by rising timestamp: how many, and their timestamps; the unused places are 0.
+pub struct InstantList {
+    pub count: u8,
+    pub timestamps: [u8; TIMESTAMPS],
+}
+
+// The candidates of a commit, chosen in two ways: by the starts of the instants and by their completions.
+pub struct Candidates {
+    pub answer: u8,
+    pub by_start: InstantList,
+    pub by_completion: InstantList,
 }
 
 // The state of an instant, with its file group from inflight on.

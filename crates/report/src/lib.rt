@@ -1,4 +1,8 @@
 // Printing what the calls of a table gave, for the programs that test them.
+mod choices;
+
+pub use choices::chosen;
+pub use choices::recorded;
 use common::Word;
 use libc::STDOUT_FILENO;
 use model::Found;

@@ -1,4 +1,4 @@
-// The reads and the cleans of a table, printed.
+// The reads, the cleans and the candidate instants of a table, printed.
 ghost use mathlib.Core.Path.{_≡_};
 ghost use Rattle.model.specs.Snapshot.{scan};
 ghost use Rattle.model.specs.Calls.{stateBefore};
@@ -42,6 +42,11 @@ pub fn clean(t: Table, present: &mut [bool; ROWS], at: u64) -> Table {
     let done = cleaning::clean(t, present, at);
     report::cleaned(at, done.answer);
     done.table
+}
+
+// The candidate instants of a writer, chosen both ways, behind a label.
+pub fn choose(t: Table, label: &[u8], writer: Word) {
+    report::chosen(label, writer, candidates::choose(t, writer));
 }
 
 // The state of the instant of a timestamp.

@@ -3,6 +3,7 @@ mod calls;
 mod script;
 mod steps;
 
+pub use calls::choose;
 pub use calls::clean;
 pub use calls::instant;
 pub use calls::point_read;

@@ -29,7 +29,7 @@ use Rattle.snapshot.proofs.ShownRows.{numbers-length}
 use Rattle.snapshot.proofs.Counting.{counted-all}
 
 pub in-range-coded : (st : State) → inRange st ≡ true → Coded (st .shared .timeline)
-in-range-coded st r i l = ranged st r .shared .instant i l .coded
+in-range-coded st r i l = ranged st r .shared .instant i .coded
 
 -- a read at timestamp t is not refused with 17 or 32
 pub record Readable (st : State) (t : ℕ) : Type 0 where

@@ -7,14 +7,17 @@ use lib.ListN.{getD, replicate}
 use Rattle.leb128.specs.Coding.{encoded, decodedAt, decodedNumbers}
 use Rattle.common.specs.Counting.{listBelow}
 use Rattle.model.specs.Limits.{writers}
-use Rattle.model.specs.State.{Shared, State, rowAt}
+use Rattle.model.specs.State.{Shared, Notes, State, rowAt}
 use Rattle.model.specs.Rules.{entryOf, Answered, writerOf, step}
 use Rattle.model.specs.Snapshot.{Listed, scan, pointRead, foundNumbers, instantAt, instantNumbers}
 use Rattle.model.specs.History.{Pending, Committed, History}
 use Rattle.model.specs.Cleaning.{clean}
+use Rattle.model.specs.Candidates.{candidates}
 use Rattle.model.specs.Isolation.{Event, takesStep, cleansAt, beginning}
 use Rattle.model.specs.declared.Mode.{Mode}
 use Rattle.model.specs.declared.Writer.{Writer}
+use Rattle.model.specs.declared.InstantList.{InstantList}
+use Rattle.model.specs.declared.Candidates.{Candidates}
 use Rattle.model.specs.declared.Operation.{Operation}
 use Rattle.model.specs.declared.Operation.the-variants.{Put, Remove}
 use Rattle.model.specs.declared.Action.{Action}
@@ -49,9 +52,12 @@ pub data Case : Type 0 where
   replies : Mode → List Event → List Event → Case  -- after events on a fresh table of a mode, the answers to others
   seen : Mode → List Event → ℕ → List ℕ → Case  -- after such events the horizon, and at some timestamps what the reads give: see `seenAt`
   cleaned : State → ℕ → List ℕ → Case  -- the answer to a clean at a timestamp, then the horizon, and the rows at some places
+  chosen : Mode → List Event → List ℕ → Case  -- after events on a fresh table of a mode, the candidates of some writers' operations
+  chosenOn : State → List ℕ → Case  -- on a table, the candidates of some writers' operations
+  notedAfter : State → List Step → Case  -- all that is noted after steps on a table
   onParts : State → Step → Case  -- the answer of `rules::act` to a caller who says that the table is in range, whether it is or not
   searched : List ℕ → ℕ → ℕ → ℕ → Case  -- the search of a timeline for hits of a file group, above a base and up to a last timestamp
-  judged : State → Case  -- a step of writer 16, at the last timestamp a read of key 32, a scan with too little room and the instant, and a clean at 0
+  judged : State → Case  -- what each call gives on a table: see `judgedNumbers`
 
 -- the answer of the log writer, its byte count and the buffer
 abbrev pub writtenNumbers : LogWritten → List ℕ
@@ -145,11 +151,27 @@ seenNumbers st k ts = st .horizon ∷ flatten (map (seenAt st k) ts)
 abbrev pub cleanedNumbers : Answered → List ℕ → List ℕ
 cleanedNumbers r is = r .answer ∷ r .state .horizon ∷ rowsNumbers (r .state .shared) is
 
--- what each call gives at the timestamp t
+-- the candidates of some writers' operations: the answer, and of each list its count and all its places
+abbrev pub listNumbers : InstantList → List ℕ
+listNumbers l = l .count ∷ l .timestamps
+
+abbrev pub candidatesNumbers : Candidates → List ℕ
+candidatesNumbers c = c .answer ∷ listNumbers (c .«by_start») ++ listNumbers (c .«by_completion»)
+
+abbrev pub chosenNumbers : State → List ℕ → List ℕ
+chosenNumbers st ws = flatten (map (λ w. candidatesNumbers (candidates st w)) ws)
+
+-- all that is noted: the place of each timestamp, the count of each writer, and the timestamps that each writer has noted
+abbrev pub notesNumbers : Notes → List ℕ
+notesNumbers n = n .places ++ n .counts ++ n .noted
+
+-- what each call gives: a step of writer 16, at the timestamp t a read of key 32, a scan with too little room and the instant, a clean at 0, and whether
+-- the candidates of writer 16 are refused
 abbrev pub judgedNumbers : State → ℕ → List ℕ
 judgedNumbers st t =
     step st (does 16 (Start (Put 32 0 8))) .answer
-    ∷ foundNumbers (pointRead st t 32) ++ listedNumbers (scan st t (replicate 2 99)) ++ instantNumbers (instantAt st t) ++ clean st 0 .answer ∷ []
+    ∷ foundNumbers (pointRead st t 32) ++ listedNumbers (scan st t (replicate 2 99)) ++ instantNumbers (instantAt st t)
+    ++ clean st 0 .answer ∷ candidates st 16 .answer ∷ []
 
 -- every action, a start with a key and a group that exist
 abbrev pub actions : List Action
@@ -176,6 +198,9 @@ resultBy way (stored mode es n k) = valueNumbers (way .executed (beginning mode)
 resultBy way (replies mode es more) = repliesTo (way .executed (beginning mode) es .state) more
 resultBy way (seen mode es k ts) = seenNumbers (way .executed (beginning mode) es .state) k ts
 resultBy way (cleaned st c is) = cleanedNumbers (clean st c) is
+resultBy way (chosen mode es ws) = chosenNumbers (way .executed (beginning mode) es .state) ws
+resultBy way (chosenOn st ws) = chosenNumbers st ws
+resultBy way (notedAfter st ss) = notesNumbers (way .after st ss .notes)
 resultBy way (onParts st s) = actOnParts (st .mode) true (writerOf st (slotOf (s .writer))) (st .shared) s .answer ∷ []
 resultBy way (searched timeline g base last) = searchNumbers (newestAbove timeline g base last)
 resultBy way (judged st) = judgedNumbers st (st .shared .last)

@@ -5,4 +5,5 @@ pub mod Stated
 pub mod Tables
 pub mod Pessimistic
 pub mod Cleaning
+pub mod Candidates
 pub mod Traces

@@ -18,15 +18,15 @@ use Rattle.traces.specs.Tables.{putting, busy, removing, maker, atPhase,
 use Rattle.traces.specs.Stated.{inRangeNumbers, outOfRangeNumbers, locksWith, readyNumbers, idle, isRequested, isInflight, isCompleted}
 
 -- a started operation carried out to its commit, from its look up on: no check comes
-abbrev restUnchecked : ℕ → List Step
+abbrev pub restUnchecked : ℕ → List Step
 restUnchecked w = does w LookUp ∷ does w Read ∷ does w Write ∷ does w Index ∷ does w Commit ∷ []
 
 -- an operation carried out whole
-abbrev wholeUnchecked : ℕ → Operation → List Step
+abbrev pub wholeUnchecked : ℕ → Operation → List Step
 wholeUnchecked w op = does w (Start op) ∷ restUnchecked w
 
 -- P5's story: writers 0 and 1 put two keys in one group; writer 1's read is refused until writer 0 has committed, and then it commits too
-abbrev p5Waits : List Step
+abbrev pub p5Waits : List Step
 p5Waits =
     does 0 (Start (Put 0 10 0)) ∷ does 1 (Start (Put 1 11 0)) ∷ does 0 LookUp ∷ does 1 LookUp ∷ does 0 Read ∷ does 1 Read ∷ does 0 Write ∷ does 0 Index
     ∷ does 0 Commit ∷ does 1 Read ∷ does 1 Write ∷ does 1 Index ∷ does 1 Commit ∷ []

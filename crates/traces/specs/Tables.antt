@@ -1,10 +1,10 @@
 -- The tables that the traces begin with: the fresh ones, and others that no run reaches.
-use Prim.Native.Nat.{ℕ, _-_}
+use Prim.Native.Nat.{ℕ, _+_, _-_, _*_}
 use mathlib.Core.Bool.{true, false}
 use mathlib.Core.List.{List, [], _∷_, _++_}
 use lib.ListN.{length, replicate, set}
-use Rattle.model.specs.Limits.{writers, timestamps}
-use Rattle.model.specs.State.{Shared, State, ready, fresh, requested, inflight, completed, rowAt}
+use Rattle.model.specs.Limits.{writers, timestamps, noted}
+use Rattle.model.specs.State.{Shared, Notes, State, notes, ready, fresh, requested, inflight, completed, rowAt}
 use Rattle.model.specs.State.{withLast, withLocks, withIndex, withTimeline, withPresent, withValues}
 use Rattle.model.specs.Rules.{withMade}
 use Rattle.model.specs.declared.Mode.{Mode}
@@ -22,7 +22,7 @@ pessimistic = fresh Pessimistic
 
 -- a table with all its numbers, in the pessimistic mode
 abbrev pub inPessimistic : State → State
-inPessimistic st = record { mode = Pessimistic; horizon = st .horizon; shared = st .shared; writers = st .writers }
+inPessimistic st = record { mode = Pessimistic; horizon = st .horizon; shared = st .shared; writers = st .writers; notes = st .notes }
 
 -- what writers share, with one row more, of key k and value v, in the slice of file group g and timestamp n
 abbrev pub withRow : ℕ → ℕ → ℕ → ℕ → Shared → Shared
@@ -50,15 +50,29 @@ lastCompleted = replicate 127 requested ++ completed 7 ∷ []
 
 -- an optimistic table whose writers are ready
 abbrev pub table : Shared → State
-table s = record { mode = Optimistic; horizon = 0; shared = s; writers = replicate writers ready }
+table s = record { mode = Optimistic; horizon = 0; shared = s; writers = replicate writers ready; notes = optimistic .notes }
 
 -- a table with another horizon
 abbrev pub withHorizon : State → ℕ → State
-withHorizon st c = record { mode = st .mode; horizon = c; shared = st .shared; writers = st .writers }
+withHorizon st c = record { mode = st .mode; horizon = c; shared = st .shared; writers = st .writers; notes = st .notes }
 
 -- a table whose writer w is x
 abbrev pub withWriter : State → ℕ → Writer → State
-withWriter st w x = record { mode = st .mode; horizon = st .horizon; shared = st .shared; writers = set (st .writers) w x }
+withWriter st w x = record { mode = st .mode; horizon = st .horizon; shared = st .shared; writers = set (st .writers) w x; notes = st .notes }
+
+-- a table with other notes
+abbrev pub withNotes : State → Notes → State
+withNotes st n = record { mode = st .mode; horizon = st .horizon; shared = st .shared; writers = st .writers; notes = n }
+
+-- a table with another place of timestamp n, another count of writer w, or another timestamp that it has noted of writer u
+abbrev pub withPlace : State → ℕ → ℕ → State
+withPlace st n p = withNotes st (notes (set (st .notes .places) (n - 1) p) (st .notes .counts) (st .notes .noted))
+
+abbrev pub withCount : State → ℕ → ℕ → State
+withCount st w c = withNotes st (notes (st .notes .places) (set (st .notes .counts) w c) (st .notes .noted))
+
+abbrev pub withNoted : State → ℕ → ℕ → ℕ → State
+withNoted st w u n = withNotes st (notes (st .notes .places) (st .notes .counts) (set (st .notes .noted) (16 * w + u) n))
 
 -- a writer with a put in progress, with one of 55, and with a remove
 abbrev pub putting : ℕ → ℕ → ℕ → ℕ → ℕ → ℕ → Writer
@@ -125,6 +139,7 @@ twoCompleted mode locks x =
       horizon = 0;
       shared = withEntry (withLocks (withInstants (completed 0 ∷ completed 1 ∷ [])) locks) 5 4;
       writers = set (replicate writers ready) 0 x;
+      notes = optimistic .notes;
     }
 
 -- the same, optimistic, where writer 5 holds the lock, or writer 0, or nobody
@@ -145,11 +160,13 @@ atLargest n =
       horizon = n;
       shared = withRow 7 n 0 largestNumber (withIndex (withLocks (withInstants (replicate n (completed 7))) (replicate 8 16)) (replicate 32 8));
       writers = replicate writers (maker (putting largestNumber 6 31 7 n n));
+      notes = notes (replicate timestamps 128) (replicate writers 128) (replicate noted n);
     }
 
 -- the same, with something else in what writers share, or in one writer
 abbrev pub atLargestBut : ℕ → (Shared → Shared) → State
-atLargestBut n change = record { mode = Optimistic; horizon = n; shared = change (atLargest n .shared); writers = atLargest n .writers }
+atLargestBut n change =
+    record { mode = Optimistic; horizon = n; shared = change (atLargest n .shared); writers = atLargest n .writers; notes = atLargest n .notes }
 
 -- eight instants, six of them completed: 1 and 7 in group 0, 2, 4 and 6 in group 1, 5 in group 3; 3 is inflight in group 0, 8 requested. Each timestamp
 -- has a row of key 5, 8 in group 1; group 1's slice of 2 has its first row and its last too, and rows stand right before and behind it, in groups 0 and 2
@@ -163,3 +180,19 @@ cleanable =
 -- the same, where a writer at a phase, in a file group, has a base
 abbrev pub withBase : ℕ → ℕ → ℕ → ℕ → State
 withBase w phase group base = withWriter cleanable w (busy phase 5 group 8 base)
+
+-- `twoCompleted`, where every place is 9, every count 5, and timestamp 1 is noted everywhere
+abbrev pub notedAll : Mode → List ℕ → Writer → State
+notedAll mode locks x = withNotes (twoCompleted mode locks x) (notes (replicate 128 9) (replicate 16 5) (replicate 256 1))
+
+-- the eight instants of `threeGroups`, with places that fit them and others: 2 and 7 have none, 3 and 8 have one though they are not completed, and so
+-- have 9 and 128, which are not issued. Writers 0, 1, 14 and 15 have an operation in progress, at timestamps 5, 7, 8 and 1; writer 2 is ready and holds 5.
+-- Writer 0 has noted 2 twice, 3, 8 and 1; writer 14 has noted 4; writer 15 its own timestamp
+abbrev pub noRunNotes : State
+noRunNotes =
+    let places : List ℕ = 1 ∷ 0 ∷ 5 ∷ 3 ∷ 4 ∷ 128 ∷ 0 ∷ 9 ∷ 50 ∷ replicate 118 0 ++ 50 ∷ [] in
+    let counts : List ℕ = 3 ∷ 2 ∷ 3 ∷ replicate 11 0 ++ 128 ∷ 0 ∷ [] in
+    let first : List ℕ = 2 ∷ 3 ∷ 2 ∷ replicate 11 0 ++ 8 ∷ 1 ∷ [] in
+    let noted : List ℕ = first ++ replicate 16 0 ++ first ++ replicate 191 0 ++ 4 ∷ 1 ∷ replicate 15 0 in
+    withWriter (withWriter (withWriter (withWriter (withWriter (withNotes (table (withInstants threeGroups)) (notes places counts noted))
+    0 (busy 4 6 0 5 0)) 1 (busy 2 6 0 7 0)) 2 (busy 0 6 0 5 0)) 14 (busy 6 6 0 8 0)) 15 (busy 1 6 0 1 0)

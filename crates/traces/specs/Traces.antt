@@ -2,20 +2,22 @@
 -- writers and timestamps of document 02, Q-6, and the numbers of Q-8; and cases for what no law of the whole table says: the stops of numbers and
 -- records, logs of the old rule, the log writer's refusals, histories, instants, the grounds of 17 one by one, the refusals in their order, the erased
 -- word (document 02, Q-3), the search of the check and its count (Q-2), index entries that are taken out again (Q-4), pessimistic tables (Q-9, in
--- Pessimistic.antt), cleaned tables (Q-13, in Cleaning.antt), tables that no run reaches. The lists of steps are in Stories.antt, the tables in
--- Tables.antt, what several cases state in Stated.antt.
+-- Pessimistic.antt), cleaned tables (Q-13, in Cleaning.antt), candidates of a commit (Q-12, in Candidates.antt), tables that no run reaches. The lists
+-- of steps are in Stories.antt, the tables in Tables.antt, what several cases state in Stated.antt.
 use Prim.Native.Nat.{_-_}
 use mathlib.Core.Path.{_≡_, refl, ap, _∙_}
 use mathlib.Core.List.{List, [], _∷_, _++_, flatten, map}
 use lib.ListN.{replicate, take}
 use Rattle.leb128.specs.Coding.{encodedIn, encoded, decodedIn, decodedAt, decodedNumbers}
-use Rattle.common.specs.Counting.{upd, eachBelow, listBelow}
+use Rattle.common.specs.Counting.{upd, eachBelow, listBelow, upTo}
 use Rattle.common.specs.Pasting.{pasted}
 use Rattle.model.specs.Limits.{writers}
 use Rattle.model.specs.State.{fresh, requested, inflight, completed, newest, cell}
 use Rattle.model.specs.State.{withLast}
 use Rattle.model.specs.Modes.{guard, lockPhase, afterIndex, mayCheck}
-use Rattle.model.specs.Range.{inRange, writersInRange, locksInRange, indexInRange, instantsInRange, noneAbove}
+use Rattle.model.specs.Range.{inRange, writersInRange, allAtMost}
+use Rattle.model.specs.Notes.{completedCount, rowNoted, notesAfter}
+use Rattle.model.specs.Candidates.{hasNoted, byStart, byCompletion, candidates}
 use Rattle.model.specs.Rules.{withInstant, copied, sliced, start, lookUp, readBase, writeSlice, enterIndex, checkConflict, commit, abort}
 use Rattle.model.specs.Rules.{ruled, act, stepTested, step}
 use Rattle.model.specs.Machine.{answersFrom}
@@ -27,7 +29,7 @@ use Rattle.model.specs.declared.Mode.the-variants.{Optimistic}
 use Rattle.model.specs.declared.Operation.the-variants.{Put, Remove}
 use Rattle.model.specs.declared.Action.the-variants.{Start, LookUp, Read, Write, Index, Check, Commit, Abort}
 use Rattle.metadata.specs.Largest.{largest}
-use Rattle.metadata.specs.Search.{upTo, newestAbove}
+use Rattle.metadata.specs.Search.{newestAbove}
 use Rattle.steplog.specs.Records.{encodedStep, ofKind, argumentsBy, recordBy, recordNumbers, logReadFrom, logRead, oldLogRead}
 use Rattle.logwriter.specs.Writing.{logWritten}
 use Rattle.run.specs.Runs.{ofLog, ofList, runFrom}
@@ -46,6 +48,7 @@ use Rattle.traces.specs.Tables.{staleRows, refusing, holding, ownLock, u
 use Rattle.traces.specs.Stated.{inRangeNumbers, outOfRangeNumbers, tableLock, readyNumbers, idle, isNone, isRequested, isInflight, isCompleted}
 use Rattle.traces.specs.Pessimistic.{pessimisticTraces}
 use Rattle.traces.specs.Cleaning.{cleaningTraces}
+use Rattle.traces.specs.Candidates.{candidatesTraces}
 
 pub traces : List Trace
 traces =
@@ -372,13 +375,13 @@ traces =
     ∷ (judged (atLargestBut 128 (λ s. withInstant s 128 (completed 8))) gives outOfRangeNumbers)
     ∷ (judged (atLargestBut 20 (λ s. withInstant s 21 requested)) gives outOfRangeNumbers)
     ∷ (judged (atLargestBut 20 (λ s. withInstant s 128 requested)) gives outOfRangeNumbers)
-    ∷ pessimisticTraces ++ cleaningTraces
+    ∷ pessimisticTraces ++ cleaningTraces ++ candidatesTraces
 
 -- the table, computed with one range test of steps for each list
 computed : map (λ (t : Trace). resultBy testedOnce (t .case)) traces ≡ map (λ (t : Trace). t .stated) traces
-unfolding traces pessimisticTraces cleaningTraces resultBy actOnParts encoded encodedIn decodedAt decodedIn decodedNumbers answersFrom step stepTested ruled act
-    start lookUp readBase writeSlice enterIndex checkConflict commit abort inRange eachBelow writersInRange indexInRange instantsInRange noneAbove
-    locksInRange guard lockPhase afterIndex mayCheck
+unfolding traces pessimisticTraces cleaningTraces candidatesTraces resultBy actOnParts encoded encodedIn decodedAt decodedIn decodedNumbers answersFrom
+    step stepTested ruled act start lookUp readBase writeSlice enterIndex checkConflict commit abort inRange eachBelow writersInRange allAtMost
+    guard lockPhase afterIndex mayCheck completedCount rowNoted notesAfter hasNoted byStart byCompletion candidates
     newest largest upTo newestAbove cell copied sliced fresh scan rowsAt numbers listBelow pointRead instantState instantAt
     drops swept basesKept clean next
     upd empty startRecorded commitRecorded endRecorded recorded storedBy

@@ -23,6 +23,9 @@ array-copy-out-x c = search needs
 act-requires : tie.Need-act-requires
 act-requires c κs = search needs
 
+note-requires : tie.Need-note-requires
+note-requires c κs = search needs
+
 mul-writers : tie.Need-mul-writers
 mul-writers c = search needs
 
@@ -34,13 +37,15 @@ with-parts-requires c κs = search needs
 
 returns : tie.Need-returns
 returns c =
-    let s = c .before .before .before .before .before .before .before .before .before .before in
+    let n = c .before .before in
+    let o = n .before .before .before .before .before in
+    let s = o .before .before .before .before .before .before .before .before in
     let t = s .before in
-    let a = t .before .before .before .before .before .before .before .before in
+    let a = t .before .before .before .before .before .before .before .before .before .before .before .before .before .before in
     let st = stateOf (a .args .t) (now (a .args .present)) (now (a .args .values)) in
     ap (answered _) (c .with-parts .ensures _ _)
-    ∙ ap (updated st _) (c .before .before .act .ensures (st .shared))
-    ∙ rw (t .parts-in-range .ensures st refl, s .slot-of .ensures .is) (parts-step st _)
+    ∙ rw (n .note .ensures)
+    (ap (updated st _ _) (o .act .ensures (st .shared)) ∙ rw (t .parts-in-range .ensures st refl, s .slot-of .ensures .is) (parts-step st _))
 
 pub advance-spec : {M : Type 1} → statement M
 advance-spec =
@@ -51,6 +56,7 @@ advance-spec =
     mul-x
     array-copy-out-x
     act-requires
+    note-requires
     mul-writers
     array-set-from-writers
     with-parts-requires

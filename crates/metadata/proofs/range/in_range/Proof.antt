@@ -9,7 +9,7 @@ parts-in-range-requires : tie.Need-parts-in-range-requires
 parts-in-range-requires c κs = search needs
 
 returns : tie.Need-returns
-returns c = let a = c .before .before .before .before .before .before .before .before .args in
+returns c = let a = c .before .before .before .before .before .before .before .before .before .before .before .before .before .before .args in
     λ present values. c .parts-in-range .ensures (stateOf (a .t) present values) refl
 
 pub in-range-spec : {M : Type 1} → statement M
