@@ -1,4 +1,4 @@
-// What commits and other endings record, and leave.
+// What commits and other endings leave noted.
 use crate::looking::looking;
 use crate::stepped::stepped;
 use model::Mode;
@@ -9,7 +9,7 @@ use model::limits::NOTED;
 use model::limits::TIMESTAMPS;
 use model::limits::WRITERS;
 
-// Writer 3 is at its commit step; it has a count and a noted timestamp, and two instants have places.
+// Writer 3 is at its commit step; it has a count and a noted timestamp, and two timestamps have places.
 fn at_commit(mode: Mode, ts: u8) -> Table {
     let mut t = looking(mode, 6, ts, 128);
     t.places[1] = 66;
@@ -52,7 +52,7 @@ fn last_commits(mode: Mode) {
 }
 
 // Every writer has a count and a row of noted timestamps; writer 3 is at its look up.
-fn all_recorded(mode: Mode) -> Table {
+fn all_noted(mode: Mode) -> Table {
     let counts = [6u8; WRITERS];
     let noted = [7u8; NOTED];
     let mut t = looking(mode, 1, 5, 9);
@@ -66,7 +66,7 @@ fn all_recorded(mode: Mode) -> Table {
 
 // The numbers of others stay, those of writer 3 until it ends. `walk` leads to its commit, `going_on` to the step before.
 fn others(mode: Mode, walk: &[u8], going_on: &[u8]) {
-    let t = all_recorded(mode);
+    let t = all_noted(mode);
     stepped(t, b"it gives up:", b"\x03\x09");
     stepped(t, b"it commits:", walk);
     stepped(t, b"it goes on:", going_on);

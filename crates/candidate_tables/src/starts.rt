@@ -1,4 +1,4 @@
-// What starts record.
+// What starts leave noted.
 use crate::looking::looking;
 use crate::looking::writing;
 use crate::stepped::stepped;
@@ -26,7 +26,7 @@ pub fn beside_a_ready_writer() {
     stepped(t, b"both start:", b"\x03\x02\x01\x02\x01\x01\x0a\x01");
 }
 
-// Of 128 timestamps 127 are completed, and the last one is issued.
+// Of 128 timestamps 127 are issued, and all of them completed.
 pub fn all_but_one() {
     let mut timeline = [COMPLETED + 7; TIMESTAMPS];
     timeline[TIMESTAMPS - 1] = NONE;

@@ -1,10 +1,10 @@
-// Steps on a table, and the numbers that they record.
+// Steps on a table, and what they leave noted.
 use model::Table;
 use model::Value;
 use model::limits::ROWS;
 use scripts::run_printed;
 
-// Runs a log on a table without rows, whole or step by step, and prints what is recorded then.
+// Runs a log on a table without rows, whole or step by step, and prints what is noted then.
 fn run_once(t: Table, label: &[u8], log: &[u8], by_steps: bool) -> Table {
     let mut present = [false; ROWS];
     let mut values: [Value; ROWS] = [0; ROWS];
@@ -18,7 +18,7 @@ fn run_once(t: Table, label: &[u8], log: &[u8], by_steps: bool) -> Table {
         by_steps,
     );
     let after = ran.table;
-    report::recorded(after);
+    report::noted(after);
     after
 }
 

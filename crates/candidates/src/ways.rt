@@ -3,7 +3,7 @@ ghost use mathlib.Core.Path.{_≡_};
 ghost use Prim.Native.Nat.{_<_};
 ghost use Rattle.model.specs.Limits.{writers};
 ghost use Rattle.model.specs.Candidates as specs;
-ghost use Rattle.candidates.specs.Inner.{Marks, pendingOrLater, placedAbove};
+ghost use Rattle.candidates.specs.Inner.{Marks};
 use crate::listing::completed_among;
 use model::InstantList;
 use model::limits::NOTED;
@@ -28,7 +28,7 @@ fn has_noted(noted: &[u8; NOTED], w: usize, ts: u8) -> bool
 // Was a timestamp pending when the operation of writer w started, or is it later than the operation's own?
 fn pending_or_later(noted: &[u8; NOTED], w: usize, own: u8, ts: u8) -> bool
     requires { ⌜ w < writers ⌝ }
-    ensures { λ r. ⌜ r ≡ pendingOrLater (now (noted .entry)) w own ts ⌝ }
+    ensures { λ r. ⌜ r ≡ specs.pendingOrLater (now (noted .entry)) w own ts ⌝ }
 {
     if has_noted(noted, w, ts) {
         return true;
@@ -39,7 +39,7 @@ fn pending_or_later(noted: &[u8; NOTED], w: usize, own: u8, ts: u8) -> bool
 // Marks the timestamps that were pending when the operation of writer w started, and the later ones.
 fn mark_by_start(noted: &[u8; NOTED], w: usize, own: u8) -> [bool; TIMESTAMPS]
     requires { ⌜ w < writers ⌝ }
-    ensures { λ r. ⌜ Marks r (pendingOrLater (now (noted .entry)) w own) ⌝ }
+    ensures { λ r. ⌜ Marks r (specs.pendingOrLater (now (noted .entry)) w own) ⌝ }
 {
     let mut marked = [false; TIMESTAMPS];
     let mut i: usize = 0;
@@ -66,7 +66,7 @@ pub fn by_start<'a>(
 
 // Marks the timestamps whose place in the order of completions is above a count.
 fn mark_by_completion(places: &[u8; TIMESTAMPS], count: u8) -> [bool; TIMESTAMPS]
-    ensures { λ r. ⌜ Marks r (placedAbove (now (places .entry)) count) ⌝ }
+    ensures { λ r. ⌜ Marks r (specs.placedAbove (now (places .entry)) count) ⌝ }
 {
     let mut marked = [false; TIMESTAMPS];
     let mut i: usize = 0;

@@ -27,7 +27,7 @@ const CHOOSE_EACH: u8 = 6;
 
 const CHOOSE: u8 = 7;
 
-const RECORDED: u8 = 8;
+const NOTED_NUMBERS: u8 = 8;
 
 // Nothing to do.
 const NOTHING: u8 = 255;
@@ -126,8 +126,8 @@ fn ask(t: Table, present: &mut [bool; ROWS], values: &mut [Value; ROWS], kind: u
     if kind == CHOOSE {
         choose_one(t, number);
     }
-    if kind == RECORDED {
-        report::recorded(t);
+    if kind == NOTED_NUMBERS {
+        report::noted(t);
     }
 }
 

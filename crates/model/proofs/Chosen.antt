@@ -13,7 +13,7 @@ use Rattle.common.proofs.Cases.{cond-iff, by-test}
 use Rattle.common.proofs.Functions.{none-some}
 use Rattle.common.proofs.ListBelow.{same-below, each-listed, mem-below}
 use Rattle.model.specs.Limits.{timestamps}
-use Rattle.model.specs.State.{completed, hasCompleted}
+use Rattle.model.specs.State.{hasCompleted, groupOfCompleted}
 use Rattle.model.specs.Snapshot.{instantOf}
 use Rattle.model.specs.Candidates.{completedThat, filled}
 use Rattle.model.proofs.CompletedInstants.{groupCompleted, completedAt}
@@ -25,7 +25,7 @@ module _ (timeline : List ℕ) where
   same-chosen p q h =
       same-below (suc timestamps) _ _
       (λ s lt.
-      by-test (hasCompleted (instantOf timeline s)) (λ e. rw (e, h s (instantOf timeline s - completed 0) (rw e))) (λ e. rw e))
+      by-test (hasCompleted (instantOf timeline s)) (λ e. rw (e, h s (groupOfCompleted (instantOf timeline s)) (rw e))) (λ e. rw e))
 
   -- what is chosen is completed
   pub chosen-completed : (p : ℕ → Bool) (s : ℕ) → List·Memᴰ s (completedThat timeline p) → hasCompleted (instantOf timeline s) ≡ true

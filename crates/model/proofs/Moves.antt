@@ -51,8 +51,8 @@ abbrev pub storing : (ℕ → ℕ → ℕ → Option ℕ) → Writer → ℕ →
 storing cell x = upd cell (x .group) (upd (cell (x .group)) (x .ts) (rowsStored cell x))
 
 -- writer w's operation starts, where the writers are these
-abbrev pub startNoted : NotesView → (ℕ → Writer) → ℕ → NotesView
-startNoted n writer w =
+abbrev pub startViewed : NotesView → (ℕ → Writer) → ℕ → NotesView
+startViewed n writer w =
     record {
       completions = n .completions;
       place = n .place;
@@ -61,12 +61,12 @@ startNoted n writer w =
     }
 
 -- it ends, or commits: the writer keeps neither its count nor what it has noted
-abbrev pub endNoted : NotesView → ℕ → NotesView
-endNoted n w = record { completions = n .completions; place = n .place; count = upd (n .count) w 0; noted = upd (n .noted) w (amongst (λ u. 0)) }
+abbrev pub endViewed : NotesView → ℕ → NotesView
+endViewed n w = record { completions = n .completions; place = n .place; count = upd (n .count) w 0; noted = upd (n .noted) w (amongst (λ u. 0)) }
 
 -- the instant of timestamp t is completed
-abbrev pub completionNoted : NotesView → ℕ → NotesView
-completionNoted n t =
+abbrev pub completionViewed : NotesView → ℕ → NotesView
+completionViewed n t =
     record { completions = n .completions + 1; place = upd (n .place) t (n .completions + 1); count = n .count; noted = n .noted }
 
 -- writer w starts an operation
@@ -83,7 +83,7 @@ afterStart v w op =
       writer = upd (v .writer) w (begun op (v .last + 1));
       history = startRecorded (v .history) w (Start op);
       stored = v .stored;
-      notes = startNoted (v .notes) (v .writer) w;
+      notes = startViewed (v .notes) (v .writer) w;
     }
 
 -- writer w goes on as x, with the locks, the index, the slices and what is stored given
@@ -117,7 +117,7 @@ afterEnd v w =
       writer = upd (v .writer) w ready;
       history = endRecorded (v .history) w;
       stored = v .stored;
-      notes = endNoted (v .notes) w;
+      notes = endViewed (v .notes) w;
     }
 
 -- writer w commits its pending operation p
@@ -134,7 +134,7 @@ afterCommit v w p =
       writer = upd (v .writer) w ready;
       history = commitRecorded (v .history) w (λ n. v .writer w .group) (some p);
       stored = v .stored;
-      notes = endNoted (completionNoted (v .notes) (v .writer w .ts)) w;
+      notes = endViewed (completionViewed (v .notes) (v .writer w .ts)) w;
     }
 
 -- a clean at the timestamp c, after which the slices are those of `cell`

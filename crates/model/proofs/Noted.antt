@@ -34,7 +34,7 @@ pub record Cleared (v : View) (w : ℕ) : Type 0 where
   pub count : v .notes .count w ≡ 0
   pub noted : v .notes .noted w ≡ amongst (λ u. 0)
 
--- the places are 1, 2, .. in the order of completions, and 0 before; what is completed is committed
+-- the places of what is completed are from 1 to the number of completions and all different, the others are 0; what is completed is committed
 pub record Noted (v : View) : Type 0 where
   pub placed : (s g : ℕ) → v .completed s ≡ some g → (0 < v .notes .place s) × (v .notes .place s ≤ v .notes .completions)
   pub unplaced : (s : ℕ) → v .completed s ≡ none → v .notes .place s ≡ 0

@@ -26,7 +26,7 @@ use Rattle.common.proofs.EachBelow.{below-same}
 use Rattle.common.proofs.Functions.{none-some, upd-ind}
 use Rattle.model.specs.Limits.{writers, timestamps, noted}
 use Rattle.model.specs.Answers.{taken, committed, aborted}
-use Rattle.model.specs.State.{Notes, State, completed, hasCompleted, atTimestamp, noteAt, ready}
+use Rattle.model.specs.State.{Notes, State, hasCompleted, groupOfCompleted, atTimestamp, noteAt, ready}
 use Rattle.model.specs.Notes.{completedCount, setTimestamp, othersCompleted, heldBy, rowNoted, startNoted, completionNoted, notesCleared, isStart}
 use Rattle.model.specs.Notes.{notesAfter}
 use Rattle.model.specs.Rules.{Outcome}
@@ -60,10 +60,10 @@ count-others l (suc m) y pos old =
 pub uncompleted-at : (l : List ℕ) (n : ℕ) → 0 < n → completedAt l n ≡ none → hasCompleted (getD l (n - 1) 0) ≡ false
 unfolding groupCompleted
 uncompleted-at l zero pos e = absurd (omega arith)
-uncompleted-at l (suc m) pos e = rw (sub-one (suc m)) (refuted (λ done. none-some {a = getD l m 0 - completed 0} e (rw done)))
+uncompleted-at l (suc m) pos e = rw (sub-one (suc m)) (refuted (λ done. none-some {a = groupOfCompleted (getD l m 0)} e (rw done)))
 
 -- where no instant from m on is completed
-pub count-most : (l : List ℕ) (m : ℕ) → ((i : ℕ) → m ≤ i → getD l i 0 ≡ 0) → completedCount l ≤ m
+count-most : (l : List ℕ) (m : ℕ) → ((i : ℕ) → m ≤ i → getD l i 0 ≡ 0) → completedCount l ≤ m
 unfolding completedCount
 count-most [] m free = zero-le
 count-most (x ∷ l) zero free = rw (free 0 zero-le) (count-most l zero (λ i le. free (suc i) zero-le))
@@ -83,7 +83,7 @@ others-most (x ∷ l) (suc m) (suc i) lt free =
 
 -- ---- a writer's row of the noted timestamps
 module _ (l : List ℕ) (w : ℕ) (f : ℕ → ℕ) where
-  pub row-ind : (P : ℕ → Type 0) (n : ℕ) → ((u : ℕ) → u < n → P (f u)) → ((k : ℕ) → P (getD l k 0)) → (k : ℕ) → P (getD (rowNoted l w f n) k 0)
+  row-ind : (P : ℕ → Type 0) (n : ℕ) → ((u : ℕ) → u < n → P (f u)) → ((k : ℕ) → P (getD l k 0)) → (k : ℕ) → P (getD (rowNoted l w f n) k 0)
   unfolding rowNoted
   row-ind P zero own old = old
   row-ind P (suc n) own old =

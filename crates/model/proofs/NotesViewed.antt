@@ -18,7 +18,7 @@ use Rattle.model.specs.declared.Writer.{Writer}
 use Rattle.model.specs.declared.Action.{Action}
 use Rattle.model.proofs.Notes.{count-same, count-next, count-others, row-noted, timestamp-set, NotesLengths}
 use Rattle.model.proofs.Notes.{notes-refused, notes-started, notes-same, notes-committed, notes-ended}
-use Rattle.model.proofs.Moves.{NotesView, startNoted, endNoted, completionNoted}
+use Rattle.model.proofs.Moves.{NotesView, startViewed, endViewed, completionViewed}
 
 -- what is noted, with the number of completed instants
 abbrev pub notesView : List ℕ → Notes → NotesView
@@ -52,7 +52,7 @@ module _ (n : Notes) (w : ℕ) (a : Action) (t : ℕ) (xs : List Writer) (timeli
     -- the instant at a place where there was none is requested
     pub started-notes : (i : ℕ) → isStart a ≡ true → getD timeline i 0 ≡ 0
         → notesView (set timeline i requested) (notesAfter n w a taken t xs (set timeline i requested))
-        ≡ startNoted (notesView timeline n) (λ u. getD xs u ready) w
+        ≡ startViewed (notesView timeline n) (λ u. getD xs u ready) w
     started-notes i start free =
         let same = count-same timeline i requested (ap hasCompleted free) in
         ap (notesView (set timeline i requested)) (notes-started n w a taken t xs (set timeline i requested) there refl start)
@@ -62,11 +62,11 @@ module _ (n : Notes) (w : ℕ) (a : Action) (t : ℕ) (xs : List Writer) (timeli
 
     -- the count and the row are cleared, whatever the instants and the places
     cleared-notes : (l places : List ℕ)
-        → notesView l (notesCleared (notes places (n .counts) (n .noted)) w) ≡ endNoted (notesView l (notes places (n .counts) (n .noted))) w
+        → notesView l (notesCleared (notes places (n .counts) (n .noted)) w) ≡ endViewed (notesView l (notes places (n .counts) (n .noted))) w
     cleared-notes l places =
         notes-path _ _ refl refl (getD-upd (n .counts) w 0 0 (omega (arith, h .counts))) (row-noted (n .noted) w (λ u. 0) there (h .noted))
 
-    pub ended-notes : (k : ℕ) → committed < k → k ≤ aborted → notesView timeline (notesAfter n w a k t xs timeline) ≡ endNoted (notesView timeline n) w
+    pub ended-notes : (k : ℕ) → committed < k → k ≤ aborted → notesView timeline (notesAfter n w a k t xs timeline) ≡ endViewed (notesView timeline n) w
     ended-notes k above upTo =
         ap (notesView timeline) (notes-ended n w a k t xs timeline there above upTo) ∙ cleared-notes timeline (n .places)
 
@@ -74,11 +74,11 @@ module _ (n : Notes) (w : ℕ) (a : Action) (t : ℕ) (xs : List Writer) (timeli
     pub committed-notes : (y : ℕ) → 0 < t → t ≤ timestamps → t ≤ length timeline
         → hasCompleted (getD timeline (t - 1) 0) ≡ false → hasCompleted y ≡ true
         → notesView (set timeline (t - 1) y) (notesAfter n w a committed t xs (set timeline (t - 1) y))
-        ≡ endNoted (completionNoted (notesView timeline n) t) w
+        ≡ endViewed (completionViewed (notesView timeline n) t) w
     committed-notes y pos fits within undone done =
         let more = count-next timeline (t - 1) y (omega arith) undone done in
         let place = ap (λ (c : ℕ). c + 1) (count-others timeline t y pos undone) in
         ap (notesView (set timeline (t - 1) y)) (notes-committed n w a committed t xs (set timeline (t - 1) y) there refl)
         ∙ cleared-notes _ _
-        ∙ ap (λ (m : NotesView). endNoted m w)
+        ∙ ap (λ (m : NotesView). endViewed m w)
         (notes-path _ _ more (timestamp-set (n .places) t _ pos (omega (arith, h .places)) ∙ ap (upd (notesView timeline n .place) t) place) refl refl)

@@ -103,9 +103,9 @@ module _ (mode : Mode) (es : List Event) (w : ℕ) where
 
   completed-committed : (s : ℕ) → hasCompleted (instantOf (u .state .shared .timeline) s) ≡ true → CommittedAt (u .history) s
   unfolding groupCompleted
-  completed-committed s e = reached-noted mode es .known s (instantOf (u .state .shared .timeline) s - completed 0) (rw e)
+  completed-committed s e = reached-noted mode es .known s (groupOfCompleted (instantOf (u .state .shared .timeline) s)) (rw e)
 
-  pub agreeing : (p : Pending) → u .history .pending w ≡ some p → Agreeing (u .history) (candidates (u .state) w)
+  agreeing : (p : Pending) → u .history .pending w ≡ some p → Agreeing (u .history) (candidates (u .state) w)
   unfolding candidates byStart byCompletion
   agreeing p is =
       let h = reached mode es in

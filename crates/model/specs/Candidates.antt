@@ -28,15 +28,23 @@ completedThat timeline p = upTo timestamps (λ s. hasCompleted (instantOf timeli
 unfoldable pub hasNoted : List ℕ → ℕ → ℕ → Bool
 hasNoted noted w s = anyBelow writers (λ u. eqb (getD noted (noteAt w u) 0) s)
 
+-- was timestamp s pending when the operation of writer w, whose timestamp is n, started, or did it start later
+abbrev pub pendingOrLater : List ℕ → ℕ → ℕ → ℕ → Bool
+pendingOrLater noted w n s = hasNoted noted w s || ltb n s
+
 -- way one (source 004: start_timestamp_based), for writer w, whose operation has timestamp n: of the instants that were pending at its start those
 -- that are completed now, and all completed ones with a later start. It uses no place and no count
 unfoldable pub byStart : List ℕ → List ℕ → ℕ → ℕ → List ℕ
-byStart timeline noted w n = completedThat timeline (λ s. hasNoted noted w s || ltb n s)
+byStart timeline noted w n = completedThat timeline (pendingOrLater noted w n)
+
+-- is the place of timestamp s in the order of completions above a count
+abbrev pub placedAbove : List ℕ → ℕ → ℕ → Bool
+placedAbove places count s = ltb count (atTimestamp places s)
 
 -- way two (source 004: end_timestamp_based), for an operation at whose start `count` instants had completed: those that completed after it started. It
 -- uses no noted timestamp
 unfoldable pub byCompletion : List ℕ → List ℕ → ℕ → List ℕ
-byCompletion timeline places count = completedThat timeline (λ s. ltb count (atTimestamp places s))
+byCompletion timeline places count = completedThat timeline (placedAbove places count)
 
 -- a list with a place for each timestamp: its count, and 0 in the places that it does not use
 abbrev pub filled : List ℕ → InstantList
@@ -61,7 +69,7 @@ candidates st w =
     cond (not (inRange st)) (noCandidates outOfRange)
     (cond (leb writers w) (noCandidates noWriter) (cond (eqb (writerOf st w .phase) 0) (noCandidates wrongPhase) (bothWays st w)))
 
--- a timestamp is that of a committed operation; an operation that ended without commit has none such
+-- a timestamp is that of a committed operation. One that ended without commit is issued, and the history has it neither in progress nor committed
 pub record CommittedAt (h : History) (s : ℕ) : Type 0 where
   pub operation : Committed
   pub done : List·Memᴰ operation (h .done)

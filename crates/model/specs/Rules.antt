@@ -137,7 +137,7 @@ unfoldable pub writeSlice : Writer → Shared → Verdict
 writeSlice x s = cond (not (eqb (x .phase) 3)) (refused wrongPhase) (goesOn (moved x 4 (x .group) (x .base)) (withSlice s x))
 
 -- 5: in an optimistic table the table lock is taken; a key indexed to another group ends the operation, and so does a remove whose key is no longer
--- indexed (document 02, Q-4). Else the key is entered in the writer's group, which is where it is if it is indexed, and the writer notes whether it
+-- indexed (document 02, Q-4). Else the key is entered in the writer's group, which is where it is if it is indexed, and its flag says whether the writer
 -- made the entry. A pessimistic table has no check to come (Q-9)
 unfoldable pub enterIndex : Mode → Writer → ℕ → Shared → Verdict
 enterIndex mode x w s =
@@ -218,6 +218,10 @@ pub record Answered : Type 0 where
 abbrev pub answered : ℕ → State → Answered
 answered n st = record { answer = n; state = st }
 
+-- the record of writer w
+abbrev pub writerOf : State → ℕ → Writer
+writerOf st w = getD (st .writers) w ready
+
 -- the outcome of writer w's action in the whole state; what is noted goes by the action and its answer (document 02, Q-12)
 abbrev pub updated : State → ℕ → Action → Outcome → Answered
 updated st w a o =
@@ -227,12 +231,8 @@ updated st w a o =
       horizon = st .horizon;
       shared = o .shared;
       writers = set (st .writers) w (o .writer);
-      notes = notesAfter (st .notes) w a (o .answer) (getD (st .writers) w ready .ts) (st .writers) (o .shared .timeline);
+      notes = notesAfter (st .notes) w a (o .answer) (writerOf st w .ts) (st .writers) (o .shared .timeline);
     })
-
--- the record of writer w
-abbrev pub writerOf : State → ℕ → Writer
-writerOf st w = getD (st .writers) w ready
 
 -- one step of a table whose range test gave `tested`: 17, then 10, then the rule of the action (document 01, Answer numbers)
 unfoldable pub stepTested : Bool → State → Step → Answered

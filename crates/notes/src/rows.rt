@@ -34,9 +34,9 @@ pub fn note_row(w: usize, row: [u8; WRITERS], noted: &mut [u8; NOTED])
     requires { ⌜ w < writers ⌝ }
     ensures { λ _. ⌜ now (noted .exit) ≡ rowNoted (now (noted .entry)) w (λ u. getD row u 0) writers ⌝ }
 {
-    let mut place: usize = 0;
-    while place < WRITERS {
-        noted[w * WRITERS + place] = row[place];
-        place += 1;
+    let mut slot: usize = 0;
+    while slot < WRITERS {
+        noted[w * WRITERS + slot] = row[slot];
+        slot += 1;
     }
 }

@@ -3,7 +3,7 @@ mod back;
 mod largest;
 mod of_a_writer;
 mod of_the_table;
-mod of_what_is_recorded;
+mod of_what_is_noted;
 mod tried;
 
 fn main() {
@@ -12,8 +12,8 @@ fn main() {
     of_the_table::locks();
     of_a_writer::numbers();
     of_a_writer::ready();
-    of_what_is_recorded::numbers();
-    of_what_is_recorded::with_one_left();
-    of_what_is_recorded::pessimistic();
+    of_what_is_noted::numbers();
+    of_what_is_noted::with_one_left();
+    of_what_is_noted::pessimistic();
     back::back_in_range();
 }

@@ -64,7 +64,7 @@ fn held_numbers(label: &[u8], row: &[u8]) {
 }
 
 // The places of the instants, the counts of the writers and the noted timestamps.
-pub fn recorded(t: Table) {
+pub fn noted(t: Table) {
     let places = t.places;
     let counts = t.counts;
     let noted = t.noted;

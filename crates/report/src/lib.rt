@@ -2,7 +2,7 @@
 mod choices;
 
 pub use choices::chosen;
-pub use choices::recorded;
+pub use choices::noted;
 use common::Word;
 use libc::STDOUT_FILENO;
 use model::Found;

@@ -1,4 +1,4 @@
--- `parts-step`: on the parts of a table, with the result of its range test, `actOnParts` is a step of the table.
+-- `parts-step`: on the parts of a table, with the result of its range test, `actOnParts` put into the state by `updated`, which notes it, is a step.
 use Prim.Native.Nat.{ℕ, _<_}
 use mathlib.Core.Bool.{Bool, true, false}
 use mathlib.Core.Path.{_≡_, refl, ap₂}

@@ -1,5 +1,6 @@
 -- One step on the parts of a table: what the public call `act` gives to a caller that keeps a table in parts and has tested its range before.
--- Document 01 has no such call. Where the test given is the table's own, it is a step of document 01 (`parts-step` in proofs/Parts.antt).
+-- Document 01 has no such call. Where the test given is the table's own, it is a step of document 01 but for what is noted, which
+-- `notes::note` leaves (`parts-step` in proofs/Parts.antt).
 use Prim.Native.Nat.{ℕ, _<_}
 use mathlib.Core.Path.{_≡_}
 use mathlib.Core.Bool.{Bool, cond, not}

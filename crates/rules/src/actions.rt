@@ -115,7 +115,7 @@ fn removes_unindexed(put: bool, entry: u8) -> bool
     entry == 0
 }
 
-// 5. Index: writer w enters its key, unless the key is another group's, or a remove's key no longer indexed. It notes whether it has made the entry.
+// 5. Index: writer w enters its key, unless the key is another group's, or a remove's key no longer indexed. Its flag says whether it has made the entry.
 // In an optimistic table it takes the table lock, unless that is another writer's.
 fn enter_index(
     mode: Mode,

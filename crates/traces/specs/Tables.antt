@@ -187,7 +187,7 @@ notedAll mode locks x = withNotes (twoCompleted mode locks x) (notes (replicate 
 
 -- the eight instants of `threeGroups`, with places that fit them and others: 2 and 7 have none, 3 and 8 have one though they are not completed, and so
 -- have 9 and 128, which are not issued. Writers 0, 1, 14 and 15 have an operation in progress, at timestamps 5, 7, 8 and 1; writer 2 is ready and holds 5.
--- Writer 0 has noted 2 twice, 3, 8 and 1; writer 14 has noted 4; writer 15 its own timestamp
+-- Writer 0 has noted 2 twice, 3, 8 and 1; writer 14 has noted 4; writer 15 its own timestamp; writer 2 has the count and the row of writer 0
 abbrev pub noRunNotes : State
 noRunNotes =
     let places : List ℕ = 1 ∷ 0 ∷ 5 ∷ 3 ∷ 4 ∷ 128 ∷ 0 ∷ 9 ∷ 50 ∷ replicate 118 0 ++ 50 ∷ [] in

@@ -6,7 +6,7 @@ use mathlib.Core.Bool.{false}
 use lib.ListN.{length-replicate}
 use borrow.Author.Needs.{needs}
 use Rattle.model.specs.Limits.{timestamps}
-use Rattle.candidates.specs.Inner.{placedAbove}
+use Rattle.model.specs.Candidates.{placedAbove}
 use Rattle.common.proofs.Loops.{Filling, fill-none, fill-next, fill-end}
 use Rattle.candidates.proofs.ways.mark_by_completion.Statement.{statement}
 use Rattle.candidates.proofs.ways.mark_by_completion.Tie as tie

@@ -6,7 +6,7 @@ use mathlib.Core.Bool.{false}
 use lib.ListN.{length-replicate}
 use borrow.Author.Needs.{needs}
 use Rattle.model.specs.Limits.{timestamps}
-use Rattle.candidates.specs.Inner.{pendingOrLater}
+use Rattle.model.specs.Candidates.{pendingOrLater}
 use Rattle.common.proofs.Loops.{Filling, fill-none, fill-next, fill-end}
 use Rattle.candidates.proofs.ways.mark_by_start.Statement.{statement}
 use Rattle.candidates.proofs.ways.mark_by_start.Tie as tie

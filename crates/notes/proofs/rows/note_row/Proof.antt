@@ -9,10 +9,10 @@ use Rattle.notes.proofs.rows.note_row.Statement.{statement}
 use Rattle.notes.proofs.rows.note_row.Tie as tie
 
 abbrev Inv-loop : tie.InvT-loop
-Inv-loop w noted₀ row place₀ noted place = Filled noted₀ w (λ u. getD row u 0) noted place
+Inv-loop w noted₀ row slot₀ noted slot = Filled noted₀ w (λ u. getD row u 0) noted slot
 
 abbrev μ-loop : tie.MeasureT-loop
-μ-loop w noted₀ row place₀ noted place = writers - place
+μ-loop w noted₀ row slot₀ noted slot = writers - slot
 
 loop-holds : tie.Need-loop-holds Inv-loop μ-loop
 loop-holds c = row-starts
@@ -29,8 +29,8 @@ add-noted c = search needs
 element-write-noted : tie.Need-element-write-noted Inv-loop μ-loop
 element-write-noted c = search needs
 
-add-place : tie.Need-add-place Inv-loop μ-loop
-add-place c = search needs
+add-slot : tie.Need-add-slot Inv-loop μ-loop
+add-slot c = search needs
 
 loop-less : tie.Need-loop-less Inv-loop μ-loop
 loop-less c = search needs
@@ -52,7 +52,7 @@ note-row-spec =
     mul-noted
     add-noted
     element-write-noted
-    add-place
+    add-slot
     loop-less
     loop-again
     returns)
