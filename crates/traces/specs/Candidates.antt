@@ -12,7 +12,7 @@ use Rattle.model.specs.declared.Step.{Step}
 use Rattle.traces.specs.Cases.{chosen, chosenOn, notedAfter, judged, does, Trace, _gives_}
 use Rattle.traces.specs.Stories.{restOf, p5, p7, p10, startErased, largestNumber}
 use Rattle.traces.specs.Tables.{optimistic, pessimistic, inPessimistic, withHorizon, withWriter, withPlace, withCount, withNoted, busy, removing}
-use Rattle.traces.specs.Tables.{refusing, notedAll, noRunNotes, atLargest}
+use Rattle.traces.specs.Tables.{refusing, allNoted, notedAll, noRunNotes, atLargest}
 use Rattle.traces.specs.Stated.{outOfRangeNumbers, locksWith, tableLock, inEach, inBoth, inNeither, notesGiven}
 use Rattle.traces.specs.Pessimistic.{restUnchecked, wholeUnchecked, p5Waits}
 
@@ -112,7 +112,7 @@ candidatesTraces =
     ∷ does 0 Commit ∷ does 1 Abort ∷ [])
     gives allKept)
     ∷ (notedAfter (notedAll Pessimistic (locksWith 1 6) (busy 2 6 1 1 0)) (does 0 Read ∷ []) gives allKept)
-    ∷ (notedAfter refusing (does 0 (Start (Put 31 0 7)) ∷ does 2 Index ∷ []) gives notesGiven [] [] [])
+    ∷ (notedAfter (allNoted refusing) (does 0 (Start (Put 31 0 7)) ∷ does 2 Index ∷ []) gives allKept)
     ∷ (notedAfter (withHorizon (notedAll Optimistic (tableLock 0) (busy 1 6 5 1 0)) 3) (does 0 Abort ∷ starts 1 ∷ []) gives allKept)
     -- nor does a step that goes on
     ∷ (notedAfter (notedAll Optimistic (tableLock 0) (busy 1 6 5 1 0)) (does 0 LookUp ∷ does 0 Read ∷ does 0 Write ∷ does 0 Index ∷ does 0 Check ∷ [])

@@ -181,9 +181,13 @@ cleanable =
 abbrev pub withBase : ℕ → ℕ → ℕ → ℕ → State
 withBase w phase group base = withWriter cleanable w (busy phase 5 group 8 base)
 
--- `twoCompleted`, where every place is 9, every count 5, and timestamp 1 is noted everywhere
+-- a table where every place is 9, every count 5, and timestamp 1 is noted everywhere
+abbrev pub allNoted : State → State
+allNoted st = withNotes st (notes (replicate 128 9) (replicate 16 5) (replicate 256 1))
+
+-- so it is in `twoCompleted`
 abbrev pub notedAll : Mode → List ℕ → Writer → State
-notedAll mode locks x = withNotes (twoCompleted mode locks x) (notes (replicate 128 9) (replicate 16 5) (replicate 256 1))
+notedAll mode locks x = allNoted (twoCompleted mode locks x)
 
 -- the eight instants of `threeGroups`, with places that fit them and others: 2 and 7 have none, 3 and 8 have one though they are not completed, and so
 -- have 9 and 128, which are not issued. Writers 0, 1, 14 and 15 have an operation in progress, at timestamps 5, 7, 8 and 1; writer 2 is ready and holds 5.
