@@ -22,23 +22,12 @@ use model::limits::NOTED;
 use model::limits::TIMESTAMPS;
 use model::limits::WRITERS;
 
-// Does a writer keep zeros, as a ready one does? Its value and its flags have no range and are not asked.
+// Does a writer keep zeros, as a ready one does? Its value and its flags have no range and are not asked. One test of all bits, not one of each number.
 fn keeps_zeros(x: Writer) -> bool
     ensures { λ r. ⌜ r ≡ keepsZeros x ⌝ }
 {
-    if x.phase != 0 {
-        return false;
-    }
-    if x.key != 0 {
-        return false;
-    }
-    if x.group != 0 {
-        return false;
-    }
-    if x.ts != 0 {
-        return false;
-    }
-    x.base == 0
+    let bits = x.phase | x.key | x.group | x.ts | x.base;
+    bits == 0
 }
 
 // Are the numbers of a writer in range? Most writers keep zeros, so that is asked first.

@@ -34,6 +34,8 @@ pub enum Mode {
 
 // The metadata of a table. Its rows are two arrays that stand beside it.
 pub struct Table {
+    // First, since the field of the widest numbers has padding before it elsewhere, and an array with padding is copied twice.
+    pub writers: [Writer; WRITERS],
     // Chosen for good when the table is made.
     pub mode: Mode,
     // The timestamp of the last clean that was taken, or 0. Reads and scans below it are refused.
@@ -42,7 +44,6 @@ pub struct Table {
     pub last: u8,
     // 0: free; w + 1: held by writer w. An optimistic table has one lock, the first; a pessimistic one has a lock for each file group.
     pub locks: [u8; GROUPS],
-    pub writers: [Writer; WRITERS],
     // Of each key: 0, or its file group + 1.
     pub index: [u8; KEYS],
     // The instant of timestamp n, at n - 1, as the module instants codes it.

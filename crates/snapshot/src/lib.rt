@@ -13,6 +13,7 @@ ghost use Rattle.snapshot.specs.Inner.{refusal};
 use common::Word;
 use metadata::in_range;
 use metadata::instant_of;
+use metadata::parts_in_range;
 use model::Found;
 use model::InstantState;
 use model::Scanned;
@@ -51,7 +52,7 @@ fn refused(answer: u8, buffer: &mut [Word]) -> Scanned
     Scanned { answer, count: 0 }
 }
 
-// The rows at a timestamp, three numbers each, into a lent buffer.
+// The rows at a timestamp, three numbers each, into a lent buffer. The table is taken apart for the range test: handed on whole it would be copied.
 pub fn scan(
     t: Table,
     present: &[bool; ROWS],
@@ -61,15 +62,32 @@ pub fn scan(
 ) -> Scanned
     ensures { λ r. ⌜ scanned r buffer ≡ scan (stateBefore t present values) at (now (buffer .entry)) ⌝ }
 {
-    let answer = refusal_of(in_range(t), at, t.horizon);
+    let locks = t.locks;
+    let writers = t.writers;
+    let index = t.index;
+    let timeline = t.timeline;
+    let places = t.places;
+    let counts = t.counts;
+    let noted = t.noted;
+    let tested = parts_in_range(
+        t.horizon,
+        t.last,
+        &locks,
+        writers,
+        &index,
+        &timeline,
+        &places,
+        &counts,
+        &noted,
+    );
+    let answer = refusal_of(tested, at, t.horizon);
     if answer != TAKEN {
         return refused(answer, buffer);
     }
-    let timeline = t.timeline;
     let slices = newest::newest_of_groups(timeline, at);
     let shown = rows::count_slices(slices, present);
-    let counts = shown.counts;
-    let count = rows::total(counts);
+    let row_counts = shown.counts;
+    let count = rows::total(row_counts);
     if buffer.len() < 3 * count {
         return refused(NO_ROOM, buffer);
     }

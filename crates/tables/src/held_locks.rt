@@ -110,6 +110,11 @@ pub fn held_by_another() {
     );
 }
 
+fn print_locks(t: Table) {
+    let locks = t.locks;
+    report::answers(b"locks:", &locks, GROUPS);
+}
+
 // Runs a log of one step on a table without rows, and prints the locks after it.
 fn locks_after(t: Table, label: &[u8], log: &[u8], by_steps: bool) {
     let mut present = [false; ROWS];
@@ -123,9 +128,7 @@ fn locks_after(t: Table, label: &[u8], log: &[u8], by_steps: bool) {
         &mut [0; 1],
         by_steps,
     );
-    let after = ran.table;
-    let locks = after.locks;
-    report::answers(b"locks:", &locks, GROUPS);
+    print_locks(ran.table);
 }
 
 // A step of writer 3 in a table with these locks, as a log and by `advance`. Timestamp 2 is completed in group 4, and key 5 is indexed to group 6.

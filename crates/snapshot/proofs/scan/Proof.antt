@@ -1,7 +1,7 @@
 -- `scan` meets its contract: each part is what the callees promise, put together by proofs/Snapshots.
 use native.Mathlib.Omega.{arith}
 use mathlib.Core.List.{[]}
-use mathlib.Core.Path.{_∙_}
+use mathlib.Core.Path.{refl, _∙_}
 use borrow.Author.Needs.{needs}
 use Rattle.model.specs.State.{stateOf}
 use Rattle.snapshot.proofs.Counting.{counted-le}
@@ -9,8 +9,8 @@ use Rattle.snapshot.proofs.Snapshots.{in-range-coded, not-refused, scan
 use Rattle.snapshot.proofs.scan.Statement.{statement}
 use Rattle.snapshot.proofs.scan.Tie as tie
 
-in-range-requires : tie.Need-in-range-requires
-in-range-requires c κs = search needs
+parts-in-range-requires : tie.Need-parts-in-range-requires
+parts-in-range-requires c κs = search needs
 
 refusal-of-requires : tie.Need-refusal-of-requires
 refusal-of-requires c κs = search needs
@@ -25,14 +25,17 @@ returns : tie.Need-returns
 returns c =
     let refused = c .before .before in
     let tested = refused .before .before in
+    let asked = tested .before .before in
+    let start = asked .before .before .before .before .before .before .before .before .before .before .before .before .before .before .before in
     refused .refused .ensures
-    ∙ scan-refused _ _ (tested .before .before .in-range .ensures _ _) (tested .before .refusal-of .ensures) _ (tested .if1 .taken)
+    ∙ scan-refused _ _ (asked .parts-in-range .ensures (stateOf (start .args .t) _ _) refl) (tested .before .refusal-of .ensures) _ (tested .if1 .taken)
 
 newest-of-groups-requires : tie.Need-newest-of-groups-requires
 newest-of-groups-requires c κs =
-    let tested = c .before in
-    let st = stateOf (tested .before .before .before .before .args .t) [] [] in
-    in-range-coded st (not-refused st _ (tested .before .before .in-range .ensures _ _) (tested .before .refusal-of .ensures) (tested .if1 .left) .fine)
+    let asked = c .before .before in
+    let start = asked .before .before .before .before .before .before .before .before .before .before .before .before .before .before .before in
+    let st = stateOf (start .args .t) [] [] in
+    in-range-coded st (not-refused st _ (asked .parts-in-range .ensures st refl) (c .before .refusal-of .ensures) (c .if1 .left) .fine)
 
 count-slices-requires : tie.Need-count-slices-requires
 count-slices-requires c κs = search needs
@@ -56,8 +59,11 @@ returns-2 c =
     let summed = room .before in
     let counted = summed .before .before in
     let newest = counted .before in
-    let tested = newest .before .before in
-    let readable = not-refused _ _ (tested .before .before .in-range .ensures _ _) (tested .before .refusal-of .ensures) (tested .if1 .left) in
+    let tested = newest .before in
+    let asked = tested .before .before in
+    let start = asked .before .before .before .before .before .before .before .before .before .before .before .before .before .before .before in
+    let st = stateOf (start .args .t) _ _ in
+    let readable = not-refused st _ (asked .parts-in-range .ensures st refl) (tested .before .refusal-of .ensures) (tested .if1 .left) in
     refused .refused2 .ensures
     ∙ scan-full _ _ (newest .newest-of-groups .ensures) (counted .count-slices .ensures) (summed .total .ensures .0)
     readable _ (room .if2 .taken)
@@ -68,7 +74,7 @@ store-requires c κs =
     let summed = room .before in
     let counted = summed .before .before in
     let newest = counted .before in
-    let start = newest .before .before .before .before .before .before in
+    let start = newest .before .before .before .before .before .before .before .before .before .before .before .before .before .before .before .before .before .before in
     all-fit (stateOf (start .args .t) _ _) _ (newest .newest-of-groups .ensures) (counted .count-slices .ensures) (summed .total .ensures .0)
     (room .if2 .left)
 
@@ -81,8 +87,11 @@ returns-3 c =
     let summed = room .before in
     let counted = summed .before .before in
     let newest = counted .before in
-    let tested = newest .before .before in
-    let readable = not-refused _ _ (tested .before .before .in-range .ensures _ _) (tested .before .refusal-of .ensures) (tested .if1 .left) in
+    let tested = newest .before in
+    let asked = tested .before .before in
+    let start = asked .before .before .before .before .before .before .before .before .before .before .before .before .before .before .before in
+    let st = stateOf (start .args .t) _ _ in
+    let readable = not-refused st _ (asked .parts-in-range .ensures st refl) (tested .before .refusal-of .ensures) (tested .if1 .left) in
     scan-done _ _ (newest .newest-of-groups .ensures) (counted .count-slices .ensures) (summed .total .ensures .0)
     readable _ (room .if2 .left) (c .before .before .store .ensures)
 
@@ -90,7 +99,7 @@ pub scan-spec : {M : Type 1} → statement M
 scan-spec =
     tie.close
     (tie.spec
-    in-range-requires
+    parts-in-range-requires
     refusal-of-requires
     refused-requires
     same-length
