@@ -1,8 +1,9 @@
 -- The parts of a read put together: what the newest slices show is what the definitions list.
 --     in-range-coded    a table in range, as the pass down the timeline asks it
 --     Readable, not-refused    what a read asks that is not refused with 17 or 32
---     scan-refused, scan-full, scan-done    a scan: refused so, no room, all rows stored
 --     all-fit           what storing the rows asks
+--     list-full, list-done    the rows of slices: no room, all stored
+--     scan-refused, scan-listed    a scan: refused so, or the rows of the newest slices
 --     read-refused, read-no-key, read-found    a point read
 use Prim.Native.Nat.{ℕ, _+_, _*_, _<_, _≤_}
 use native.Mathlib.Omega.{arith}
@@ -20,11 +21,11 @@ use Rattle.model.specs.Limits.{keys, groups}
 use Rattle.model.specs.Answers.{taken, noKey, outOfRange, noRoom, belowHorizon}
 use Rattle.model.specs.State.{State}
 use Rattle.model.specs.Range.{inRange}
-use Rattle.model.specs.Snapshot.{rowsOf, allRows, newestAt, rowsAt, Listed, unlisted, numbers, scan, firstOf, pointRead}
+use Rattle.model.specs.Snapshot.{Row, rowsOf, allRows, newestAt, rowsAt, Listed, unlisted, numbers, scan, firstOf, pointRead}
 use Rattle.model.specs.declared.Found.the-variants.{Refused}
 use Rattle.model.proofs.Ranged.{ranged}
 use Rattle.snapshot.specs.declared.rows.KeyCounts.{KeyCounts}
-use Rattle.snapshot.specs.Inner.{refusal, Coded, NewestSlices, sliceIn, Counted, AllFit}
+use Rattle.snapshot.specs.Inner.{refusal, Coded, Slices, NewestSlices, sliceIn, listedIfFits, Counted, AllFit}
 use Rattle.snapshot.proofs.ShownRows.{numbers-length}
 use Rattle.snapshot.proofs.Counting.{counted-all}
 
@@ -78,26 +79,27 @@ module _ (st : State) (t : ℕ) {slices : List ℕ} (h : NewestSlices (st .share
   unfolding pointRead
   read-found r k l = rw (r .fine, le-ltb t (st .horizon) (r .above), lt-leb keys k l) (ap firstOf (key-same k))
 
-  module _ {shown : KeyCounts} {count : ℕ} (c : Counted slices present groups (shown .counts) (shown .lowest))
-      (e : count ≡ sum keys (λ k. getD (shown .counts) k 0)) where
-    all-counted : count ≡ length (allRows present values (sliceIn slices))
-    all-counted = e ∙ counted-all slices present c values
+  pub scan-listed : Readable st t → (buffer : List ℕ) → listedIfFits (allRows present values (sliceIn slices)) buffer ≡ scan st t buffer
+  unfolding scan
+  scan-listed r buffer = rw (r .fine, le-ltb t (st .horizon) (r .above)) (ap (λ rows. listedIfFits rows buffer) all-same)
 
-    pub all-fit : {room : ℕ} → 3 * count ≤ room → AllFit slices present values shown room
-    all-fit l = record { slice = h .within; counted = c; fits = omega (arith, all-counted) }
+module _ (present : List Bool) (values slices : List ℕ) {shown : KeyCounts} {count : ℕ}
+    (c : Counted slices present groups (shown .counts) (shown .lowest)) (e : count ≡ sum keys (λ k. getD (shown .counts) k 0)) where
+  abbrev rows : List Row
+  rows = allRows present values (sliceIn slices)
 
-    counted : count ≡ length (rowsAt (st .shared) t)
-    counted = all-counted ∙ ap length all-same
+  counted : count ≡ length rows
+  counted = e ∙ counted-all slices present c values
 
-    pub scan-full : Readable st t → (buffer : List ℕ) → length buffer < 3 * count → unlisted noRoom buffer ≡ scan st t buffer
-    unfolding scan
-    scan-full r buffer l = rw (r .fine, le-ltb t (st .horizon) (r .above), ← counted, lt-ltb (length buffer) (3 * count) l)
+  pub all-fit : Slices slices → {room : ℕ} → 3 * count ≤ room → AllFit slices present values shown room
+  all-fit within l = record { slice = within; counted = c; fits = omega (arith, counted) }
 
-    pub scan-done : {new : List ℕ} → Readable st t → (buffer : List ℕ) → 3 * count ≤ length buffer
-        → new ≡ pasted buffer 0 (numbers (allRows present values (sliceIn slices)))
-        → _≡_ {A = Listed} (record { answer = taken; count = count; buffer = new }) (scan st t buffer)
-    unfolding scan pasted
-    scan-done r buffer l f =
-        let rows = rowsAt (st .shared) t in
-        let behind : 0 + length (numbers rows) ≡ 3 * length rows = omega (arith, numbers-length rows) in
-        rw (r .fine, le-ltb t (st .horizon) (r .above), f, all-same, behind, counted, le-ltb (length buffer) (3 * length rows) (omega (arith, counted)))
+  pub list-full : (buffer : List ℕ) → length buffer < 3 * count → unlisted noRoom buffer ≡ listedIfFits rows buffer
+  list-full buffer l = rw (← counted, lt-ltb (length buffer) (3 * count) l)
+
+  pub list-done : {new : List ℕ} (buffer : List ℕ) → 3 * count ≤ length buffer → new ≡ pasted buffer 0 (numbers rows)
+      → _≡_ {A = Listed} (record { answer = taken; count = count; buffer = new }) (listedIfFits rows buffer)
+  unfolding pasted
+  list-done buffer l f =
+      let behind : 0 + length (numbers rows) ≡ 3 * length rows = omega (arith, numbers-length rows) in
+      rw (f, behind, counted, le-ltb (length buffer) (3 * length rows) (omega (arith, counted)))

@@ -3,6 +3,7 @@ mod entries;
 mod groups;
 mod held_locks;
 mod numbers;
+mod steps_and_locks;
 
 fn main() {
     groups::completed_elsewhere();
@@ -13,7 +14,7 @@ fn main() {
     held_locks::two_held();
     held_locks::at_phase_5();
     held_locks::held_by_another();
-    held_locks::of_each_mode();
+    steps_and_locks::of_each_mode();
     numbers::not_given();
     entries::said_to_be_made();
 }

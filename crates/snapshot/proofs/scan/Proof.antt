@@ -1,11 +1,9 @@
--- `scan` meets its contract: each part is what the callees promise, put together by proofs/Snapshots.
-use native.Mathlib.Omega.{arith}
+-- `scan` meets its contract: refused by the tests, or the rows of the newest slices, by proofs/Snapshots.
 use mathlib.Core.List.{[]}
 use mathlib.Core.Path.{refl, _∙_}
 use borrow.Author.Needs.{needs}
 use Rattle.model.specs.State.{stateOf}
-use Rattle.snapshot.proofs.Counting.{counted-le}
-use Rattle.snapshot.proofs.Snapshots.{in-range-coded, not-refused, scan-refused, scan-full, all-fit, scan-done}
+use Rattle.snapshot.proofs.Snapshots.{in-range-coded, not-refused, scan-refused, scan-listed}
 use Rattle.snapshot.proofs.scan.Statement.{statement}
 use Rattle.snapshot.proofs.scan.Tie as tie
 
@@ -37,63 +35,22 @@ newest-of-groups-requires c κs =
     let st = stateOf (start .args .t) [] [] in
     in-range-coded st (not-refused st _ (asked .parts-in-range .ensures st refl) (c .before .refusal-of .ensures) (c .if1 .left) .fine)
 
-count-slices-requires : tie.Need-count-slices-requires
-count-slices-requires c κs = search needs
-
-total-requires : tie.Need-total-requires
-total-requires c κs = counted-le _ _ (c .before .count-slices .ensures) (omega arith)
-
-mul-if2 : tie.Need-mul-if2
-mul-if2 c = search needs
-
-refused-requires-2 : tie.Need-refused-requires-2
-refused-requires-2 c κs = search needs
+list-requires : tie.Need-list-requires
+list-requires c κs = c .before .newest-of-groups .ensures .within
 
 same-length-2 : tie.Need-same-length-2
 same-length-2 c = search needs
 
 returns-2 : tie.Need-returns-2
 returns-2 c =
-    let refused = c .before .before in
-    let room = refused .before .before in
-    let summed = room .before in
-    let counted = summed .before .before in
-    let newest = counted .before in
+    let listed = c .before .before in
+    let newest = listed .before .before in
     let tested = newest .before in
     let asked = tested .before .before in
     let start = asked .before .before .before .before .before .before .before .before .before .before .before .before .before .before .before in
     let st = stateOf (start .args .t) _ _ in
     let readable = not-refused st _ (asked .parts-in-range .ensures st refl) (tested .before .refusal-of .ensures) (tested .if1 .left) in
-    refused .refused2 .ensures
-    ∙ scan-full _ _ (newest .newest-of-groups .ensures) (counted .count-slices .ensures) (summed .total .ensures .0)
-    readable _ (room .if2 .taken)
-
-store-requires : tie.Need-store-requires
-store-requires c κs =
-    let room = c .before in
-    let summed = room .before in
-    let counted = summed .before .before in
-    let newest = counted .before in
-    let start = newest .before .before .before .before .before .before .before .before .before .before .before .before .before .before .before .before .before .before in
-    all-fit (stateOf (start .args .t) _ _) _ (newest .newest-of-groups .ensures) (counted .count-slices .ensures) (summed .total .ensures .0)
-    (room .if2 .left)
-
-same-length-3 : tie.Need-same-length-3
-same-length-3 c = search needs
-
-returns-3 : tie.Need-returns-3
-returns-3 c =
-    let room = c .before .before .before .before in
-    let summed = room .before in
-    let counted = summed .before .before in
-    let newest = counted .before in
-    let tested = newest .before in
-    let asked = tested .before .before in
-    let start = asked .before .before .before .before .before .before .before .before .before .before .before .before .before .before .before in
-    let st = stateOf (start .args .t) _ _ in
-    let readable = not-refused st _ (asked .parts-in-range .ensures st refl) (tested .before .refusal-of .ensures) (tested .if1 .left) in
-    scan-done _ _ (newest .newest-of-groups .ensures) (counted .count-slices .ensures) (summed .total .ensures .0)
-    readable _ (room .if2 .left) (c .before .before .store .ensures)
+    listed .list .ensures ∙ scan-listed st _ (newest .newest-of-groups .ensures) readable _
 
 pub scan-spec : {M : Type 1} → statement M
 scan-spec =
@@ -105,12 +62,6 @@ scan-spec =
     same-length
     returns
     newest-of-groups-requires
-    count-slices-requires
-    total-requires
-    mul-if2
-    refused-requires-2
+    list-requires
     same-length-2
-    returns-2
-    store-requires
-    same-length-3
-    returns-3)
+    returns-2)
