@@ -1,6 +1,6 @@
 -- What the definitions give for the candidates of a commit, and what is noted for them (document 02, Q-12): a part of the table of traces.
 use Prim.Native.Nat.{ℕ, suc}
-use mathlib.Core.List.{List, [], _∷_, _++_}
+use mathlib.Core.List.{List, [], _∷_, _++_, flatten}
 use lib.ListN.{take, replicate}
 use Rattle.common.specs.Counting.{listBelow}
 use Rattle.model.specs.Isolation.{Event, cleansAt, eventsOf}
@@ -9,7 +9,7 @@ use Rattle.model.specs.declared.Mode.the-variants.{Optimistic, Pessimistic}
 use Rattle.model.specs.declared.Operation.the-variants.{Put, Remove}
 use Rattle.model.specs.declared.Action.the-variants.{Start, LookUp, Read, Write, Index, Check, Commit, Abort}
 use Rattle.model.specs.declared.Step.{Step}
-use Rattle.traces.specs.Cases.{chosen, chosenOn, notedAfter, judged, does, Trace, _gives_}
+use Rattle.traces.specs.Cases.{chosen, chosenAlong, chosenOn, notedAfter, judged, does, Trace, _gives_}
 use Rattle.traces.specs.Stories.{restOf, p5, p7, p10, startErased, largestNumber}
 use Rattle.traces.specs.Tables.{optimistic, pessimistic, inPessimistic, withHorizon, withWriter, withPlace, withCount, withNoted, busy, removing}
 use Rattle.traces.specs.Tables.{refusing, allNoted, notedAll, noRunNotes, atLargest}
@@ -51,16 +51,25 @@ allKept = notesGiven (replicate 128 9) (replicate 16 5) (replicate 256 1)
 abbrev firstCleared : List ℕ → List ℕ
 firstCleared places = notesGiven places (0 ∷ replicate 15 5) (replicate 16 0 ++ replicate 240 1)
 
+-- writers 0 and 1 have no operation in progress
+abbrev bothReady : List ℕ
+bothReady = inNeither 14 ++ inNeither 14
+
+-- the same numbers after each of n steps
+abbrev repeated : ℕ → List ℕ → List ℕ
+repeated n l = flatten (replicate n l)
+
 -- 1 to 128
 abbrev allTimestamps : List ℕ
 allTimestamps = listBelow 128 (λ n. suc n ∷ [])
 
 unfoldable pub candidatesTraces : List Trace
 candidatesTraces =
-    -- P10: timestamps 3 and 4 in progress, neither has a candidate, as nothing completed since they started; after the commit of 4 it is one of 3's;
-    -- where 3 commits first it is one of 4's, though it started before
-    (chosen Optimistic (eventsOf (take 16 p10)) (0 ∷ 1 ∷ []) gives inBoth [] ++ inBoth [])
-    ∷ (chosen Optimistic (eventsOf p10) (0 ∷ 1 ∷ []) gives inBoth (4 ∷ []) ++ inNeither 14)
+    -- P10, step by step: timestamps 1 and 2 run alone; 3 and 4 start, and neither has a candidate, as nothing completed since they started; 4 commits, and
+    -- is one of 3's until that commits; where 3 commits first it is one of 4's, though it started before
+    (chosenAlong optimistic (p10 ++ restOf 0) (0 ∷ 1 ∷ [])
+    gives bothReady ++ repeated 6 (inBoth [] ++ inNeither 14) ++ bothReady ++ repeated 6 (inNeither 14 ++ inBoth []) ++ bothReady
+    ++ inBoth [] ++ inNeither 14 ++ repeated 6 (inBoth [] ++ inBoth []) ++ repeated 6 (inBoth (4 ∷ []) ++ inNeither 14) ++ bothReady)
     ∷ (chosen Optimistic (eventsOf (take 16 p10 ++ restOf 0)) (0 ∷ 1 ∷ []) gives inNeither 14 ++ inBoth (3 ∷ []))
     -- what is noted then: places, counts, and timestamp 3 by writer 1; no place before a commit; writers that have committed have no notes
     ∷ (notedAfter optimistic (take 16 p10) gives notesGiven (1 ∷ 2 ∷ []) (2 ∷ 2 ∷ []) (replicate 16 0 ++ 3 ∷ []))

@@ -1,9 +1,9 @@
 -- A trace: what is asked of the definitions, and what they are stated to give, in numbers.
-use Prim.Native.Nat.{ℕ}
+use Prim.Native.Nat.{ℕ, _+_}
 use mathlib.Core.Bool.{true, false, cond}
 use mathlib.Core.List.{List, [], _∷_, _++_, flatten, map}
 use mathlib.Core.Option.{Option, none, some}
-use lib.ListN.{getD, replicate}
+use lib.ListN.{length, getD, take, replicate}
 use Rattle.leb128.specs.Coding.{encoded, decodedAt, decodedNumbers}
 use Rattle.common.specs.Counting.{listBelow}
 use Rattle.model.specs.Limits.{writers}
@@ -53,6 +53,7 @@ pub data Case : Type 0 where
   seen : Mode → List Event → ℕ → List ℕ → Case  -- after such events the horizon, and at some timestamps what the reads give: see `seenAt`
   cleaned : State → ℕ → List ℕ → Case  -- the answer to a clean at a timestamp, then the horizon, and the rows at some places
   chosen : Mode → List Event → List ℕ → Case  -- after events on a fresh table of a mode, the candidates of some writers' operations
+  chosenAlong : State → List Step → List ℕ → Case  -- before the first of some steps on a table, and after each, the candidates of some writers' operations
   chosenOn : State → List ℕ → Case  -- on a table, the candidates of some writers' operations
   notedAfter : State → List Step → Case  -- all that is noted after steps on a table
   onParts : State → Step → Case  -- the answer of `rules::act` to a caller who says that the table is in range, whether it is or not
@@ -199,6 +200,7 @@ resultBy way (replies mode es more) = repliesTo (way .executed (beginning mode) 
 resultBy way (seen mode es k ts) = seenNumbers (way .executed (beginning mode) es .state) k ts
 resultBy way (cleaned st c is) = cleanedNumbers (clean st c) is
 resultBy way (chosen mode es ws) = chosenNumbers (way .executed (beginning mode) es .state) ws
+resultBy way (chosenAlong st ss ws) = listBelow (length ss + 1) (λ n. chosenNumbers (way .after st (take n ss)) ws)
 resultBy way (chosenOn st ws) = chosenNumbers st ws
 resultBy way (notedAfter st ss) = notesNumbers (way .after st ss .notes)
 resultBy way (onParts st s) = actOnParts (st .mode) true (writerOf st (slotOf (s .writer))) (st .shared) s .answer ∷ []
