@@ -34,7 +34,7 @@ pub enum Mode {
 
 // The metadata of a table. Its rows are two arrays that stand beside it.
 pub struct Table {
-    // First, since the field of the widest numbers has padding before it elsewhere, and an array with padding is copied twice.
+    // First: at any other place padding stands before them, and the compiler copies them twice (docs/DECISIONS.md).
     pub writers: [Writer; WRITERS],
     // Chosen for good when the table is made.
     pub mode: Mode,
