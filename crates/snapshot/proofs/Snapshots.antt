@@ -21,11 +21,11 @@ use Rattle.model.specs.Limits.{keys, groups}
 use Rattle.model.specs.Answers.{taken, noKey, outOfRange, noRoom, belowHorizon}
 use Rattle.model.specs.State.{State}
 use Rattle.model.specs.Range.{inRange}
-use Rattle.model.specs.Snapshot.{Row, rowsOf, allRows, newestAt, rowsAt, Listed, unlisted, numbers, scan, firstOf, pointRead}
+use Rattle.model.specs.Snapshot.{Row, rowsOf, allRows, newestAt, rowsAt, Listed, unlisted, listedIfFits, numbers, scan, firstOf, pointRead}
 use Rattle.model.specs.declared.Found.the-variants.{Refused}
 use Rattle.model.proofs.Ranged.{ranged}
 use Rattle.snapshot.specs.declared.rows.KeyCounts.{KeyCounts}
-use Rattle.snapshot.specs.Inner.{refusal, Coded, Slices, NewestSlices, sliceIn, listedIfFits, Counted, AllFit}
+use Rattle.snapshot.specs.Inner.{refusal, Coded, Slices, NewestSlices, sliceIn, Counted, AllFit}
 use Rattle.snapshot.proofs.ShownRows.{numbers-length}
 use Rattle.snapshot.proofs.Counting.{counted-all}
 

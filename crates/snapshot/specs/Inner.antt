@@ -7,9 +7,9 @@ use lib.ListN.{length, getD}
 use lib.Dec.{ltb}
 use Rattle.common.specs.Counting.{listBelow, sum}
 use Rattle.model.specs.Limits.{keys, groups, timestamps}
-use Rattle.model.specs.Answers.{taken, outOfRange, noRoom, belowHorizon}
+use Rattle.model.specs.Answers.{taken, outOfRange, belowHorizon}
 use Rattle.model.specs.State.{completed, newest, rowIn}
-use Rattle.model.specs.Snapshot.{Row, shown, rowsOf, allRows, Listed, unlisted, listed}
+use Rattle.model.specs.Snapshot.{Row, shown, rowsOf, allRows}
 use Rattle.snapshot.specs.declared.rows.KeyCounts.{KeyCounts}
 
 -- the refusal of a read at timestamp t, where `tested` is the result of the range test: 17, then 32; 0 for none
@@ -36,10 +36,6 @@ sliceIn slices g = getD slices g 0
 -- the slice of file group g and timestamp n has a place for a row of key k
 abbrev pub HasPlace : ℕ → ℕ → ℕ → Type 0
 HasPlace g n k = (g < groups) × ((0 < n) × (n ≤ timestamps)) × (k < keys)
-
--- rows that are listed if the lent numbers have room for theirs: the end of a scan
-abbrev pub listedIfFits : List Row → List ℕ → Listed
-listedIfFits rows buffer = cond (ltb (length buffer) (3 * length rows)) (unlisted noRoom buffer) (listed rows buffer)
 
 -- has file group g's slice a row of key k
 abbrev pub hasRow : List ℕ → List Bool → ℕ → ℕ → Bool
