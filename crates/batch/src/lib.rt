@@ -1,4 +1,6 @@
 // Logs on standard input, each four bytes of length, the lowest first, and its bytes: their transcripts, printed.
+#![tactic(auto)]
+
 ghost use Rattle.std.specs.Prelude.{◌+◌, ◌<◌, ◌≤◌, ◌^◌, length};
 
 use libc::{STDIN_FILENO, STDOUT_FILENO};

@@ -18,5 +18,5 @@ pub fn limits() {
     limit(b"erased word", all.erased_word);
     limit(b"last phase", all.last_phase as u64);
     limit(b"rows", all.rows as u64);
-    limit(b"noted", all.note_places as u64);
+    limit(b"noted", all.noted as u64);
 }

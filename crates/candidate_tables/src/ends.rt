@@ -2,7 +2,7 @@
 use crate::looking::looking;
 use crate::stepped::stepped;
 use model::instants::{COMPLETED, INFLIGHT};
-use model::limits::{NOTE_PLACES, TIMESTAMPS, WRITERS};
+use model::limits::{NOTED, TIMESTAMPS, WRITERS};
 use model::{Mode, Table};
 
 // Writer 3 is at its commit step; it has a count and a noted timestamp, and two timestamps have places.
@@ -50,7 +50,7 @@ fn last_commits(mode: Mode) {
 // Every writer has a count and a row of noted timestamps; writer 3 is at its look up.
 fn all_noted(mode: Mode) -> Table {
     let counts = [6u8; WRITERS];
-    let noted = [7u8; NOTE_PLACES];
+    let noted = [7u8; NOTED];
     let mut t = looking(mode, 1, 5, 9);
     t.places[0] = 9;
     t.places[4] = 8;

@@ -1,4 +1,6 @@
 // Candidate instants of tables that are set by hand: in range, though no steps lead to them.
+#![tactic(auto)]
+
 mod counts;
 mod ends;
 mod looking;

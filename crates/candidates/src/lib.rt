@@ -1,4 +1,6 @@
 // The candidates of a commit: the completed instants that ran beside an operation, chosen in two ways. Each way is lent what it may use, and nothing else.
+#![tactic(auto)]
+
 mod listing;
 mod ways;
 

@@ -6,10 +6,10 @@ ghost use Rattle.candidates.specs.Inner.{Marks};
 
 use crate::listing::completed_among;
 use model::InstantList;
-use model::limits::{NOTE_PLACES, TIMESTAMPS, WRITERS};
+use model::limits::{NOTED, TIMESTAMPS, WRITERS};
 
 // Has writer w noted a timestamp?
-fn has_noted(noted: &[u8; NOTE_PLACES], w: usize, ts: u8) -> bool
+fn has_noted(noted: &[u8; NOTED], w: usize, ts: u8) -> bool
     requires { w < writers }
     ensures { result ≡ specs.has_noted noted.now w ts }
 {
@@ -24,7 +24,7 @@ fn has_noted(noted: &[u8; NOTE_PLACES], w: usize, ts: u8) -> bool
 }
 
 // Was a timestamp pending when the operation of writer w started, or is it later than the operation's own?
-fn pending_or_later(noted: &[u8; NOTE_PLACES], w: usize, own: u8, ts: u8) -> bool
+fn pending_or_later(noted: &[u8; NOTED], w: usize, own: u8, ts: u8) -> bool
     requires { w < writers }
     ensures { result ≡ specs.pending_or_later noted.now w own ts }
 {
@@ -35,7 +35,7 @@ fn pending_or_later(noted: &[u8; NOTE_PLACES], w: usize, own: u8, ts: u8) -> boo
 }
 
 // Marks the timestamps that were pending when the operation of writer w started, and the later ones.
-fn mark_by_start(noted: &[u8; NOTE_PLACES], w: usize, own: u8) -> [bool; TIMESTAMPS]
+fn mark_by_start(noted: &[u8; NOTED], w: usize, own: u8) -> [bool; TIMESTAMPS]
     requires { w < writers }
     ensures { Marks result (specs.pending_or_later noted.now w own) }
 {
@@ -51,7 +51,7 @@ fn mark_by_start(noted: &[u8; NOTE_PLACES], w: usize, own: u8) -> [bool; TIMESTA
 // Way one: of the instants that were pending when the operation of writer w started, and of those with a later start than its own, the completed ones.
 pub fn by_start<'a>(
     timeline: &'a [u8; TIMESTAMPS],
-    noted: &'a [u8; NOTE_PLACES],
+    noted: &'a [u8; NOTED],
     w: usize,
     own: u8,
 ) -> InstantList

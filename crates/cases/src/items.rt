@@ -39,7 +39,7 @@ const TRY_SCAN: u8 = 13;
 const NOTHING: u8 = 255;
 
 // An item: its bytes, none for most kinds, stand from `bytes` up to the next item.
-#[derive(Drop)]
+#[derive(Clone, Copy)]
 struct Item {
     kind: u8,
     number: Word,

@@ -5,6 +5,8 @@
 // those that set a table's numbers, and try calls on a table that stays as it is, each with N bytes (11 with the timestamp N): 9, pairs of a place and the
 // number there; 10, a log, each record as one step and then the whole; 11, a clean; 12, a timestamp and a key, read; 13, a timestamp and a room, scanned.
 // An item that is cut short ends the input.
+#![tactic(auto)]
+
 mod items;
 mod show;
 

@@ -1,4 +1,6 @@
 // Cleans of tables that are set by hand: in range, though no steps lead to them.
+#![tactic(auto)]
+
 mod bases;
 mod rows;
 

@@ -1,4 +1,6 @@
 // Cleaning: a call between steps that drops the completed file slices which no read at or above a timestamp shows. It is no rule of a writer.
+#![tactic(auto)]
+
 ghost use Rattle.std.specs.Prelude.{◌≡◌, true, List, ℕ, ◌≤◌};
 ghost use Rattle.model.specs.Limits.{timestamps};
 ghost use Rattle.model.specs.State.{state_of};

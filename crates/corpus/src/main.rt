@@ -1,4 +1,6 @@
 // Prints the transcripts of the logs on standard input, run on fresh optimistic tables.
+#![tactic(auto)]
+
 use model::Mode;
 
 fn main() {

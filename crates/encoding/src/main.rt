@@ -1,4 +1,6 @@
 // What the log writer and the number writer store, and that they store nothing where they refuse.
+#![tactic(auto)]
+
 ghost use Rattle.std.specs.Prelude.{◌≡◌};
 ghost use Rattle.logwriter.specs.Writing.{log_written};
 ghost use Rattle.encoding.specs.Steps.{put_and_look_up};

@@ -1,4 +1,6 @@
 // A list of steps that is run on tables of either mode: with a place for every answer, with a place too few, and with none.
+#![tactic(auto)]
+
 mod steps;
 
 use model::limits::ROWS;

@@ -1,4 +1,6 @@
 // The locks of a table, and what depends on its mode: who holds a lock, how a step takes one, how a writer lets go of all.
+#![tactic(auto)]
+
 mod modes;
 
 ghost use Rattle.std.specs.Prelude.{◌≡◌};

@@ -1,4 +1,6 @@
 // The metadata of a table, read: the range test of answer 17, and the search of the timeline.
+#![tactic(auto)]
+
 mod range;
 mod timeline;
 

@@ -9,7 +9,7 @@ ghost use Rattle.metadata.specs.Largest.{largest};
 ghost use Rattle.metadata.specs.Parts.{with_parts};
 
 use model::instants::{LARGEST, NONE};
-use model::limits::{GROUPS, KEYS, LAST_PHASE, NOTE_PLACES, TIMESTAMPS, WRITERS};
+use model::limits::{GROUPS, KEYS, LAST_PHASE, NOTED, TIMESTAMPS, WRITERS};
 use model::{Table, Writer};
 
 // Does a writer keep zeros, as a ready one does? Its value and its flags have no range and are not asked. One test of all bits, not one of each number.
@@ -113,7 +113,7 @@ fn notes_in_range<'a>(
     last: u8,
     places: &'a [u8; TIMESTAMPS],
     counts: &'a [u8; WRITERS],
-    noted: &'a [u8; NOTE_PLACES],
+    noted: &'a [u8; NOTED],
 ) -> bool
     ensures { result ≡ notes_in_range last (notes places.now counts.now noted.now) }
 {
@@ -137,7 +137,7 @@ pub fn parts_in_range<'a>(
     timeline: &'a [u8; TIMESTAMPS],
     places: &'a [u8; TIMESTAMPS],
     counts: &'a [u8; WRITERS],
-    noted: &'a [u8; NOTE_PLACES],
+    noted: &'a [u8; NOTED],
 ) -> bool
     ensures { (st : State) → st.horizon ≡ horizon
         → result ≡ in_range (with_parts st last locks.now writers index.now timeline.now

@@ -7,7 +7,7 @@ ghost use Rattle.metadata.specs.Search.{newest_above};
 use model::instants::{COMPLETED, NONE};
 
 // What a search gives: the newest hit, or that there is none, and how many timestamps it looked at.
-#[derive(Drop)]
+#[derive(Clone, Copy)]
 pub enum Search {
     Hit { ts: u8, looked_at: u8 },
     NoHit { looked_at: u8 },

@@ -4,7 +4,7 @@ use mathlib.Core.Path.{◌≡◌, ◌∙◌}
 use mathlib.Core.List.{List}
 use mathlib.Core.Bool.{Bool, false}
 use lib.ListN.{length, get_or, set, length-set, length-map, length-replicate}
-use Rattle.model.specs.Limits.{writers, keys, groups, timestamps, rows, note_places}
+use Rattle.model.specs.Limits.{writers, keys, groups, timestamps, rows, noted}
 use Rattle.model.specs.State.{Shared, State, with_last, with_locks, with_index, with_timeline, with_present, with_values, ready, fresh}
 use Rattle.model.specs.Answers.{committed}
 use Rattle.model.specs.Rules.{locking, Verdict, closed, carried, act, Answered, step_tested, step}
@@ -110,6 +110,6 @@ fresh_lengths mode =
           record {
             places = length-replicate {A = ℕ} timestamps 0;
             counts = length-replicate {A = ℕ} writers 0;
-            noted = length-replicate {A = ℕ} note_places 0;
+            noted = length-replicate {A = ℕ} noted 0;
           };
     }

@@ -24,7 +24,7 @@ use Rattle.common.specs.Counting.{upd, any_below}
 use Rattle.common.proofs.Cases.{cond_each, by_test, refuted, set_ind}
 use Rattle.common.proofs.EachBelow.{below_same}
 use Rattle.common.proofs.Functions.{none_some, upd_ind}
-use Rattle.model.specs.Limits.{writers, timestamps, note_places}
+use Rattle.model.specs.Limits.{writers, timestamps, noted}
 use Rattle.model.specs.Answers.{taken, committed, aborted}
 use Rattle.model.specs.State.{Notes, State, has_completed, group_of_completed, at_timestamp, note_at, ready}
 use Rattle.model.specs.Notes.{completed_count, set_timestamp, others_completed, held_by, row_noted, start_noted, completion_noted, notes_cleared, is_start}
@@ -94,7 +94,7 @@ module _ (l : List ℕ) (w : ℕ) (f : ℕ → ℕ) where
   row_length zero = refl
   row_length (suc n) = length-set (row_noted l w f n) (note_at w n) (f n) ∙ row_length n
 
-  row_own : w < writers → length l ≡ note_places → (n u : ℕ) → n ≤ writers → u < n → get_or (row_noted l w f n) (note_at w u) 0 ≡ f u
+  row_own : w < writers → length l ≡ noted → (n u : ℕ) → n ≤ writers → u < n → get_or (row_noted l w f n) (note_at w u) 0 ≡ f u
   unfolding row_noted
   row_own there sized zero u le lt = absurd (omega arith)
   row_own there sized (suc n) u le lt =
@@ -115,7 +115,7 @@ amongst f s = any_below writers (λ u. eqb (f u) s)
 same_amongst : (f g : ℕ → ℕ) → ((u : ℕ) → u < writers → f u ≡ g u) → amongst f ≡ amongst g
 same_amongst f g h = fun_ext (λ s. ap not (below_same _ _ writers (λ u lt. ap (λ (n : ℕ). not (eqb n s)) (h u lt))))
 
-pub row_noted_lem : (l : List ℕ) (w : ℕ) (f : ℕ → ℕ) → w < writers → length l ≡ note_places → has_noted (row_noted l w f writers) ≡ upd (has_noted l) w (amongst f)
+pub row_noted_lem : (l : List ℕ) (w : ℕ) (f : ℕ → ℕ) → w < writers → length l ≡ noted → has_noted (row_noted l w f writers) ≡ upd (has_noted l) w (amongst f)
 unfolding has_noted
 row_noted_lem l w f there sized =
     let old : ℕ → ℕ → Bool = λ v. amongst (λ u. get_or l (note_at v u) 0) in
@@ -217,7 +217,7 @@ notes_ranged st w a o there r k =
 pub record NotesLengths (n : Notes) : Type 0 where
   pub places : length n.places ≡ timestamps
   pub counts : length n.counts ≡ writers
-  pub noted : length n.noted ≡ note_places
+  pub noted : length n.noted ≡ noted
 
 cleared_lengths : {n : Notes} (w : ℕ) → NotesLengths n → NotesLengths (notes_cleared n w)
 cleared_lengths {n} w h =

@@ -21,7 +21,7 @@ use borrow.Author.Tests.{eq-eqb, ne_eqb, lt-ltb, lt-leb}
 use Rattle.common.proofs.Cases.{cond_iff, facts}
 use Rattle.common.proofs.Functions.{none_some, get_d_fresh}
 use Rattle.common.proofs.EachBelow.{below_all, below_stop}
-use Rattle.model.specs.Limits.{writers, timestamps, note_places}
+use Rattle.model.specs.Limits.{writers, timestamps, noted}
 use Rattle.model.specs.Answers.{group_changed}
 use Rattle.model.specs.State.{Shared, State, completed, has_completed, group_of_completed, at_timestamp, note_at, ready, fresh}
 use Rattle.model.specs.Notes.{completed_count}
@@ -70,7 +70,7 @@ fresh_noted mode =
       operation = λ w p. absurd (omega (arith, p, ap (λ (x : Writer). x.phase) (fresh_writer mode w)));
       cleared =
           λ w q.
-          record { count = get_d_fresh {A = ℕ} writers w 0; noted = ap amongst (fun_ext (λ u. get_d_fresh {A = ℕ} note_places (note_at w u) 0)) };
+          record { count = get_d_fresh {A = ℕ} writers w 0; noted = ap amongst (fun_ext (λ u. get_d_fresh {A = ℕ} noted (note_at w u) 0)) };
     }
   where
     fresh_place : (s : ℕ) → at_timestamp (replicate timestamps 0) s ≡ 0

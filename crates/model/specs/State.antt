@@ -1,7 +1,7 @@
 -- A table with its rows as one value (document 01, What the engine holds).
 use Rattle.std.specs.Prelude.{ℕ, zero, suc, ◌+◌, ◌-◌, ◌*◌, Bool, false, cond, ◌&&◌, List, get_or, replicate, eqb, ltb, leb}
 use Rattle.std.proofs.Math.Option.{Option, none, some}
-use Rattle.model.specs.Limits.{writers, keys, groups, timestamps, rows, note_places}
+use Rattle.model.specs.Limits.{writers, keys, groups, timestamps, rows, noted}
 use Rattle.model.specs.declared.Mode.{Mode}
 use Rattle.model.specs.declared.Writer.{Writer}
 use Rattle.model.specs.declared.Table.{Table}
@@ -66,7 +66,7 @@ fresh mode =
             values = replicate rows 0;
           };
       writers = replicate writers ready;
-      notes = notes (replicate timestamps 0) (replicate writers 0) (replicate note_places 0);
+      notes = notes (replicate timestamps 0) (replicate writers 0) (replicate noted 0);
     }
 
 -- an instant is one number: 0 none, 1 requested, then inflight in each file group, then completed in each

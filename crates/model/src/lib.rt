@@ -1,16 +1,18 @@
 // The types of a table, of its steps and of its reads. specs/ gives their meaning.
+#![tactic(auto)]
+
 pub mod answers;
 pub mod instants;
 pub mod limits;
 
 use common::Word;
-use limits::{GROUPS, KEYS, NOTE_PLACES, TIMESTAMPS, WRITERS};
+use limits::{GROUPS, KEYS, NOTED, TIMESTAMPS, WRITERS};
 
 // What a key holds: a number of a log. No steps put the erased word.
 pub type Value = Word;
 
 // A writer, with its operation in progress. A ready writer is at phase 0; in a table that steps have reached it keeps zeros.
-#[derive(Drop)]
+#[derive(Clone, Copy)]
 pub struct Writer {
     pub phase: u8,
     pub put: bool,
@@ -24,14 +26,14 @@ pub struct Writer {
 }
 
 // How a table keeps its writers apart: by one lock and a check before the commit, or by a lock for each file group.
-#[derive(Drop)]
+#[derive(Clone, Copy)]
 pub enum Mode {
     Optimistic,
     Pessimistic,
 }
 
 // The metadata of a table. Its rows are two arrays that stand beside it.
-#[derive(Drop)]
+#[derive(Clone, Copy)]
 pub struct Table {
     // First: at any other place padding stands before them, and the compiler copies them twice (docs/DECISIONS.md).
     pub writers: [Writer; WRITERS],
@@ -52,11 +54,11 @@ pub struct Table {
     // Of each writer: how many instants had completed when its operation started.
     pub counts: [u8; WRITERS],
     // A row of WRITERS timestamps for each writer: those that the operations in progress held when its operation started, 0 for none.
-    pub noted: [u8; NOTE_PLACES],
+    pub noted: [u8; NOTED],
 }
 
 // What a start carries.
-#[derive(Drop)]
+#[derive(Clone, Copy)]
 pub enum Operation {
     Put {
         key: Word,
@@ -69,7 +71,7 @@ pub enum Operation {
 }
 
 // What a writer does. Abort is document 01's give up.
-#[derive(Drop)]
+#[derive(Clone, Copy)]
 pub enum Action {
     Start(Operation),
     LookUp,
@@ -82,28 +84,28 @@ pub enum Action {
 }
 
 // What one writer does next.
-#[derive(Drop)]
+#[derive(Clone, Copy)]
 pub struct Step {
     pub writer: Word,
     pub action: Action,
 }
 
 // The answer to a step or a clean, and the table after it.
-#[derive(Drop)]
+#[derive(Clone, Copy)]
 pub struct Stepped {
     pub answer: u8,
     pub table: Table,
 }
 
 // The answer to a scan, and the number of rows stored.
-#[derive(Drop)]
+#[derive(Clone, Copy)]
 pub struct Scanned {
     pub answer: u8,
     pub count: usize,
 }
 
 // What a point read finds.
-#[derive(Drop)]
+#[derive(Clone, Copy)]
 pub enum Found {
     Refused(u8),
     Absent,
@@ -111,14 +113,14 @@ pub enum Found {
 }
 
 // Instants by rising timestamp: how many, and their timestamps; the unused places are 0.
-#[derive(Drop)]
+#[derive(Clone, Copy)]
 pub struct InstantList {
     pub count: u8,
     pub timestamps: [u8; TIMESTAMPS],
 }
 
 // The candidates of a commit, chosen in two ways: by the starts of the instants and by their completions.
-#[derive(Drop)]
+#[derive(Clone, Copy)]
 pub struct Candidates {
     pub answer: u8,
     pub by_start: InstantList,
@@ -126,7 +128,7 @@ pub struct Candidates {
 }
 
 // The state of an instant, with its file group from inflight on.
-#[derive(Drop)]
+#[derive(Clone, Copy)]
 pub enum InstantState {
     Refused(u8),
     None,

@@ -1,5 +1,7 @@
 // What is noted after each step for the candidates of a commit: an instant's place in the order of completions; how many instants had completed when an
 // operation started, and which timestamps the operations in progress held then.
+#![tactic(auto)]
+
 mod completed;
 mod rows;
 
@@ -10,7 +12,7 @@ ghost use Rattle.model.specs.Notes as noting;
 
 use completed::{completed_count, note_completion};
 use model::answers::{ABORTED, COMMITTED, TAKEN};
-use model::limits::{NOTE_PLACES, TIMESTAMPS, WRITERS};
+use model::limits::{NOTED, TIMESTAMPS, WRITERS};
 use model::{Action, Writer};
 use rows::{held_timestamps, note_row};
 
@@ -36,7 +38,7 @@ fn note_start(
     writers: [Writer; WRITERS],
     timeline: &[u8; TIMESTAMPS],
     counts: &mut [u8; WRITERS],
-    noted: &mut [u8; NOTE_PLACES],
+    noted: &mut [u8; NOTED],
 )
     requires { w < limits.writers }
     ensures { (places : List ℕ) → notes places counts.new noted.new
@@ -48,7 +50,7 @@ fn note_start(
 }
 
 // Writer w's operation ends or commits: the writer keeps neither its count nor the timestamps.
-fn note_end(w: usize, counts: &mut [u8; WRITERS], noted: &mut [u8; NOTE_PLACES])
+fn note_end(w: usize, counts: &mut [u8; WRITERS], noted: &mut [u8; NOTED])
     requires { w < limits.writers }
     ensures { (places : List ℕ) → notes places counts.new noted.new
         ≡ noting.notes_cleared (notes places counts.old noted.old) w }
@@ -69,7 +71,7 @@ pub fn note(
     timeline: &[u8; TIMESTAMPS],
     places: &mut [u8; TIMESTAMPS],
     counts: &mut [u8; WRITERS],
-    noted: &mut [u8; NOTE_PLACES],
+    noted: &mut [u8; NOTED],
 )
     ensures { notes places.new counts.new noted.new
         ≡ noting.notes_after (notes places.old counts.old noted.old) w action answer ts writers timeline.now }

@@ -5,7 +5,7 @@ ghost use Rattle.model.specs.Notes.{held_by, row_noted};
 ghost use Rattle.notes.specs.Inner.{HeldBy};
 
 use model::Writer;
-use model::limits::{NOTE_PLACES, WRITERS};
+use model::limits::{NOTED, WRITERS};
 
 // The timestamp that a writer's operation in progress holds, or 0.
 fn held_by(x: Writer) -> u8
@@ -28,7 +28,7 @@ pub fn held_timestamps(writers: [Writer; WRITERS]) -> [u8; WRITERS]
 }
 
 // The row of writer w is set.
-pub fn note_row(w: usize, row: [u8; WRITERS], noted: &mut [u8; NOTE_PLACES])
+pub fn note_row(w: usize, row: [u8; WRITERS], noted: &mut [u8; NOTED])
     requires { w < writers }
     ensures { noted.new ≡ row_noted noted.old w (λ u. get_or row u 0) writers }
 {

@@ -1,4 +1,6 @@
 // An operation, and the first rule of the walk, its start. The numbers are those of document 01, A writer's walk.
+#![tactic(auto)]
+
 ghost use Rattle.std.specs.Prelude.{◌≡◌, ◌<◌};
 ghost use Rattle.model.specs.Limits.{keys, groups};
 ghost use Rattle.model.specs.State.{with_last, with_timeline};

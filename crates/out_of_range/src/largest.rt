@@ -1,6 +1,6 @@
 // Tables with every number at its largest, but for some.
 use model::instants::{COMPLETED, NONE};
-use model::limits::{GROUPS, KEYS, NOTE_PLACES, TIMESTAMPS, WRITERS};
+use model::limits::{GROUPS, KEYS, NOTED, TIMESTAMPS, WRITERS};
 use model::{Mode, Table, Value, Writer};
 
 // The largest numbers in range. They are the papers', not the code's limits: a wrong limit does not move them. A place and a count have the limit of
@@ -59,7 +59,7 @@ pub fn table_of(last: u8, entry: u8, instant: u8, writer: Writer, others: Writer
         timeline,
         places: [LAST; TIMESTAMPS],
         counts: [LAST; WRITERS],
-        noted: [last; NOTE_PLACES],
+        noted: [last; NOTED],
     }
 }
 
@@ -75,7 +75,7 @@ pub fn with_locks(mode: Mode, locks: [u8; GROUPS]) -> Table {
         timeline: [INSTANT; TIMESTAMPS],
         places: [LAST; TIMESTAMPS],
         counts: [LAST; WRITERS],
-        noted: [LAST; NOTE_PLACES],
+        noted: [LAST; NOTED],
     }
 }
 

@@ -1,4 +1,6 @@
 // Answer 17, ground by ground: a table with every number at its largest, then with one number out of range.
+#![tactic(auto)]
+
 mod back;
 mod largest;
 mod of_a_writer;

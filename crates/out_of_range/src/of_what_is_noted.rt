@@ -1,10 +1,10 @@
 // Numbers that the candidate instants rest on: the first and the last of each kind.
 ghost use Rattle.std.specs.Prelude.{◌<◌};
-ghost use Rattle.model.specs.Limits.{writers, timestamps, note_places};
+ghost use Rattle.model.specs.Limits.{writers, timestamps, noted};
 
 use crate::largest::{LAST, largest, one_left};
 use crate::tried::tried;
-use model::limits::{NOTE_PLACES, TIMESTAMPS, WRITERS};
+use model::limits::{NOTED, TIMESTAMPS, WRITERS};
 use model::{Mode, Table};
 
 // Changes to a table, each of one number: a place of an instant, a count of a writer, a noted timestamp.
@@ -25,7 +25,7 @@ fn with_count(t: Table, slot: usize, count: u8) -> Table
 }
 
 fn with_noted(t: Table, slot: usize, ts: u8) -> Table
-    requires { slot < note_places }
+    requires { slot < noted }
 {
     let mut x = t;
     x.noted[slot] = ts;
@@ -46,10 +46,7 @@ pub fn numbers() {
         with_count(t, WRITERS - 1, above),
     );
     tried(b"17: first noted timestamp", with_noted(t, 0, above));
-    tried(
-        b"17: last noted timestamp",
-        with_noted(t, NOTE_PLACES - 1, above),
-    );
+    tried(b"17: last noted timestamp", with_noted(t, NOTED - 1, above));
 }
 
 // A noted timestamp above the last one issued, though a table may issue it; and the place of one that is not issued.
@@ -61,7 +58,7 @@ pub fn with_one_left() {
     );
     tried(
         b"17: last noted timestamp, one timestamp left",
-        with_noted(t, NOTE_PLACES - 1, LAST),
+        with_noted(t, NOTED - 1, LAST),
     );
     tried(
         b"17: place of the last timestamp, one timestamp left",
@@ -82,6 +79,6 @@ pub fn pessimistic() {
     );
     tried(
         b"17: last noted timestamp, pessimistic",
-        with_noted(t, NOTE_PLACES - 1, above),
+        with_noted(t, NOTED - 1, above),
     );
 }

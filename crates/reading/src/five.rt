@@ -5,7 +5,7 @@ ghost use Rattle.steplog.specs.Reader.{reader_place, reader_finds};
 use steplog::Record;
 
 // What five calls of `next` gave, and the reader's place after them.
-#[derive(Drop)]
+#[derive(Clone, Copy)]
 pub struct Five {
     pub first: Record,
     pub second: Record,

@@ -1,4 +1,6 @@
 // Reads logs, each through one reader that is asked five times, and prints what each call gave.
+#![tactic(auto)]
+
 mod five;
 mod print;
 

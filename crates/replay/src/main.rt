@@ -1,4 +1,6 @@
 // Prints the transcript of the log on standard input.
+#![tactic(auto)]
+
 ghost use Rattle.replay.specs.Within.{within};
 
 use libc::{STDERR_FILENO, STDIN_FILENO, STDOUT_FILENO};
@@ -9,7 +11,7 @@ use transcript::{MAX_LOG, MAX_TEXT};
 const MAX_INPUT: usize = MAX_LOG + 1;
 
 // What reading gave: the number of bytes stored, or that a read failed.
-#[derive(Drop)]
+#[derive(Clone, Copy)]
 enum Input {
     Bytes(usize),
     Failed,

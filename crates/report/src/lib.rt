@@ -1,4 +1,6 @@
 // Printing what the calls of a table gave, for the programs that test them.
+#![tactic(auto)]
+
 mod choices;
 
 pub use choices::{chosen, noted};

@@ -1,3 +1,2 @@
--- The laws of `rules`; a module uses only those before it.
 pub mod Bounds
 pub mod Parts

@@ -40,8 +40,8 @@ fn look_up(x: Writer, index: &[u8; KEYS]) -> Verdict
     Verdict::Ended(NOT_INDEXED)
 }
 
-// 3. Read: the base is the file group's newest completed timestamp, unless that is above the writer's own; the instant
-// is inflight. In a pessimistic table writer w takes the group's lock, unless it is another writer's.
+// 3. Read: the base is the file group's newest completed timestamp, unless that is above the writer's own; the instant is inflight. In a pessimistic
+// table writer w takes the group's lock, unless it is another writer's.
 fn read_base(
     mode: Mode,
     x: Writer,
@@ -51,8 +51,7 @@ fn read_base(
     timeline: &mut [u8; TIMESTAMPS],
 ) -> Verdict
     requires { (w < writers) × Bounds x }
-    ensures { Follows x result (together (reading with_last last) (together (changing with_locks locks) (changing with_timeline timeline)))
-        (rules.read_base mode x w) }
+    ensures { Follows x result (together (reading with_last last) (together (changing with_locks locks) (changing with_timeline timeline))) (rules.read_base mode x w) }
 {
     if x.phase != 2 {
         return Verdict::Refused(WRONG_PHASE);

@@ -1,7 +1,8 @@
 // The rules of a step: the tests of answers 17 and 10, and the action, on the parts of a table. One dispatch for every call that takes steps.
+#![tactic(auto)]
+
 mod actions;
 
-ghost use Rattle.std.specs.Prelude.{◌≡◌};
 ghost use Rattle.verdicts.specs.Fields.{all_fields};
 ghost use Rattle.rules.specs.Parts.{Slot, act_on_parts, OutcomeIs};
 
@@ -19,15 +20,8 @@ pub fn slot_of(w: Word) -> usize
     if w < WRITERS as Word { w as usize } else { 0 }
 }
 
-// A step that is not taken: the writer's record stays.
-fn unmoved(answer: u8, x: Writer) -> Acted
-    ensures { (result.answer ≡ answer) × (result.writer ≡ x) }
-{
-    Acted { answer, writer: x }
-}
-
-// One step on the parts of a table, for a caller that keeps a table in locals over many steps: `tested` is the result of
-// the range test that the caller made before them, and x the record at the writer's place. Only the actor is tested again.
+// One step on the parts of a table, for a caller that keeps a table in locals over many steps: `tested` is the result of the range test that
+// the caller made before them, and x the record at the writer's place. Only the actor is tested again.
 pub fn act(
     mode: Mode,
     tested: bool,
@@ -43,13 +37,22 @@ pub fn act(
     ensures { OutcomeIs result (all_fields last locks index timeline present values) (λ o. act_on_parts mode tested x o s) }
 {
     if !tested {
-        return unmoved(OUT_OF_RANGE, x);
+        return Acted {
+            answer: OUT_OF_RANGE,
+            writer: x,
+        };
     }
     if s.writer >= WRITERS as Word {
-        return unmoved(NO_WRITER, x);
+        return Acted {
+            answer: NO_WRITER,
+            writer: x,
+        };
     }
     if !actor_in_range(*last, x) {
-        return unmoved(OUT_OF_RANGE, x);
+        return Acted {
+            answer: OUT_OF_RANGE,
+            writer: x,
+        };
     }
     let w = s.writer as u8;
     let action = s.action;

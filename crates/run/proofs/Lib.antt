@@ -1,4 +1,3 @@
--- The laws of `run`; a module uses only those before it.
 pub mod TestedRange
 pub mod Turns
 pub mod LogLoop
@@ -6,4 +5,3 @@ pub mod Taken
 pub mod LogAsList
 pub mod RunState
 pub mod ListRuns
-pub mod RunTypes

@@ -1,4 +1,6 @@
 // Stories: scripts of logs that are run on a table, and what the calls then give, printed.
+#![tactic(auto)]
+
 mod calls;
 mod script;
 mod steps;

@@ -1,4 +1,6 @@
 // Searches of timelines that are set by hand: that of the check step, with its count; the newest of a file group; single instants.
+#![tactic(auto)]
+
 use metadata::{Search, instant_of, newest_above, newest_of};
 use model::instants::{COMPLETED, INFLIGHT, NONE, REQUESTED};
 use model::limits::TIMESTAMPS;

@@ -1,4 +1,6 @@
 // Tables and rows, set by hand.
+#![tactic(auto)]
+
 mod cleans;
 
 pub use cleans::{clean_rows, clean_story};

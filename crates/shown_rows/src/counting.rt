@@ -8,7 +8,7 @@ use crate::places::{has_slices, row_at};
 use model::limits::{GROUPS, KEYS, ROWS};
 
 // Of each key: how many file groups show it, and the lowest of them, or GROUPS.
-#[derive(Drop)]
+#[derive(Clone, Copy)]
 pub struct KeyCounts {
     pub shows: [u8; KEYS],
     pub lowest: [u8; KEYS],

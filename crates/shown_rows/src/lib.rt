@@ -1,5 +1,7 @@
 // The rows that given file slices show: all of them, listed, and the first one of a key. `slices` has the timestamp of
 // each file group's slice, or 0 for none; a timestamp above the last has none either.
+#![tactic(auto)]
+
 mod counting;
 mod places;
 mod storing;

@@ -1,4 +1,6 @@
 // File slices: KEYS rows for each timestamp and file group, in two arrays of the same places, one of bools and one of values.
+#![tactic(auto)]
+
 mod copies;
 mod places;
 

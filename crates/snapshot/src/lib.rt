@@ -1,17 +1,20 @@
 // Reading a table at a timestamp.
+#![tactic(auto)]
+
 mod newest;
+mod rows;
 
 ghost use Rattle.std.specs.Prelude.{◌≡◌, Bool, List, ℕ};
 ghost use Rattle.model.specs.State.{state_of};
-ghost use Rattle.model.specs.Snapshot.{unlisted, scan, point_read, found_numbers, instant_state, instant_at, instant_numbers};
+ghost use Rattle.model.specs.Snapshot.{all_rows, unlisted, listed_if_fits, scan, point_read, found_numbers, instant_state, instant_at, instant_numbers};
 ghost use Rattle.model.specs.Calls.{state_before, scanned};
-ghost use Rattle.snapshot.specs.Inner.{refusal};
+ghost use Rattle.snapshot.specs.Inner.{refusal, Slices, slice_in};
 
 use common::Word;
 use metadata::{in_range, instant_of, parts_in_range};
-use model::answers::{BELOW_HORIZON, NO_KEY, OUT_OF_RANGE, TAKEN};
+use model::answers::{BELOW_HORIZON, NO_KEY, NO_ROOM, OUT_OF_RANGE, TAKEN};
 use model::instants::{COMPLETED, INFLIGHT, NONE, REQUESTED};
-use model::limits::{KEYS, ROWS};
+use model::limits::{GROUPS, KEYS, ROWS};
 use model::{Found, InstantState, Scanned, Table, Value};
 
 // The refusal of a read of a table whose range test gave `tested`, or TAKEN.
@@ -33,6 +36,29 @@ fn refused(answer: u8, buffer: &mut [Word]) -> Scanned
     ensures { scanned result buffer ≡ unlisted answer buffer.old }
 {
     Scanned { answer, count: 0 }
+}
+
+// The rows that the file groups' slices show, three numbers each, into a lent buffer, if it has room for all.
+fn list(
+    slices: [u8; GROUPS],
+    present: &[bool; ROWS],
+    values: &[Value; ROWS],
+    buffer: &mut [Word],
+) -> Scanned
+    requires { Slices slices }
+    ensures { scanned result buffer ≡ listed_if_fits (all_rows present.now values.now (slice_in slices)) buffer.old }
+{
+    let shown = rows::count_slices(slices, present);
+    let counts = shown.counts;
+    let count = rows::total(counts);
+    if buffer.len() < 3 * count {
+        return refused(NO_ROOM, buffer);
+    }
+    rows::store(slices, present, values, shown, buffer);
+    Scanned {
+        answer: TAKEN,
+        count,
+    }
 }
 
 // The rows at a timestamp, three numbers each, into a lent buffer. The table is taken apart for the range test: handed on whole it would be copied.
@@ -60,7 +86,7 @@ pub fn scan(
         return refused(answer, buffer);
     }
     let slices = newest::newest_of_groups(timeline, at);
-    shown_rows::list(slices, present, values, buffer)
+    list(slices, present, values, buffer)
 }
 
 // The row of a key at a timestamp.
@@ -76,7 +102,7 @@ pub fn read(t: Table, present: &[bool; ROWS], values: &[Value; ROWS], at: u64, k
     }
     let timeline = t.timeline;
     let slices = newest::newest_of_groups(timeline, at);
-    shown_rows::first_row(slices, present, values, key as usize)
+    rows::first_row(slices, present, values, key as usize)
 }
 
 // What an instant's number means.

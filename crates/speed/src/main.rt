@@ -1,6 +1,8 @@
 // Runs the operations of a log one by one, with a scan after each, as many times over as the input says: to be timed against a program in ordinary
 // Rust with the same input and output (tests/speed). Standard input, of which the first 4,096 bytes count, is the number of passes over the log,
 // in LEB128, and the log. The last pass is printed.
+#![tactic(auto)]
+
 mod print;
 
 ghost use Rattle.std.specs.Prelude.{◌<◌, ◌≤◌};

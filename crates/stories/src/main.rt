@@ -1,4 +1,6 @@
 // Source 002's examples, document 01's traces and document 02's rules, run as logs and step by step.
+#![tactic(auto)]
+
 mod entries;
 mod examples;
 mod pessimistic;

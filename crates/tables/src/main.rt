@@ -1,4 +1,6 @@
 // Tables that are set by hand: in range, though no steps lead to them.
+#![tactic(auto)]
+
 mod entries;
 mod groups;
 mod held_locks;

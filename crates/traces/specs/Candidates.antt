@@ -9,10 +9,11 @@ use Rattle.model.specs.declared.Operation.TheVariants.{Put, Remove}
 use Rattle.model.specs.declared.Action.TheVariants.{Start, LookUp, Read, Write, Index, Check, Commit, Abort}
 use Rattle.model.specs.declared.Step.{Step}
 use Rattle.traces.specs.Cases.{chosen, chosen_along, chosen_on, noted_after, judged, does, Trace, ◌gives◌}
-use Rattle.traces.specs.Stories.{rest_of, rest_unchecked, whole_unchecked, p5, p5_waits, p7, p10, start_erased, largest_number}
+use Rattle.traces.specs.Stories.{rest_of, p5, p7, p10, start_erased, largest_number}
 use Rattle.traces.specs.Tables.{optimistic, pessimistic, in_pessimistic, with_horizon, with_writer, with_place, with_count, with_noted, busy, removing}
 use Rattle.traces.specs.Tables.{refusing, all_noted, noted_all, no_run_notes, at_largest}
 use Rattle.traces.specs.Stated.{out_of_range_numbers, locks_with, table_lock, in_each, in_both, in_neither, notes_given}
+use Rattle.traces.specs.Pessimistic.{rest_unchecked, whole_unchecked, p5_waits}
 
 -- writer w starts a put of key w, which proposes group w
 abbrev starts : ℕ → Step
@@ -63,9 +64,14 @@ all_timestamps = list_below 128 (λ n. suc n ∷ [])
 
 unfoldable pub candidates_traces : List Trace
 candidates_traces =
-    -- what is noted along P10: places, counts, and timestamp 3 by writer 1; no place before a commit; writers that have
-    -- committed have no notes
-    (noted_after optimistic (take 16 p10) gives notes_given (1 ∷ 2 ∷ []) (2 ∷ 2 ∷ []) (replicate 16 0 ++ 3 ∷ []))
+    -- P10, step by step: timestamps 1 and 2 run alone; 3 and 4 start, and neither has a candidate, as nothing completed since they started; 4 commits, and
+    -- is one of 3's until that commits; where 3 commits first it is one of 4's, though it started before
+    (chosen_along optimistic (p10 ++ rest_of 0) (0 ∷ 1 ∷ [])
+    gives both_ready ++ repeated 6 (in_both [] ++ in_neither 14) ++ both_ready ++ repeated 6 (in_neither 14 ++ in_both []) ++ both_ready
+    ++ in_both [] ++ in_neither 14 ++ repeated 6 (in_both [] ++ in_both []) ++ repeated 6 (in_both (4 ∷ []) ++ in_neither 14) ++ both_ready)
+    ∷ (chosen Optimistic (events_of (take 16 p10 ++ rest_of 0)) (0 ∷ 1 ∷ []) gives in_neither 14 ++ in_both (3 ∷ []))
+    -- what is noted then: places, counts, and timestamp 3 by writer 1; no place before a commit; writers that have committed have no notes
+    ∷ (noted_after optimistic (take 16 p10) gives notes_given (1 ∷ 2 ∷ []) (2 ∷ 2 ∷ []) (replicate 16 0 ++ 3 ∷ []))
     ∷ (noted_after optimistic p10 gives notes_given (1 ∷ 2 ∷ 0 ∷ 3 ∷ []) (2 ∷ []) [])
     ∷ (noted_after optimistic (p10 ++ rest_of 0) gives notes_given (1 ∷ 2 ∷ 4 ∷ 3 ∷ []) [] [])
     -- started before all others, and last: all others are candidates, by rising timestamp, in whatever order they completed, and cleaned or not
@@ -139,11 +145,4 @@ candidates_traces =
     ∷ (judged (with_noted (at_largest 20) 0 0 21) gives out_of_range_numbers)
     ∷ (judged (with_noted (at_largest 20) 15 15 21) gives out_of_range_numbers)
     ∷ (judged (with_noted (at_largest 128) 15 15 129) gives out_of_range_numbers)
-    -- P10, step by step: timestamps 1 and 2 run alone; 3 and 4 start, and neither has a candidate, as nothing completed
-    -- since they started; 4 commits, and is one of 3's until that commits; where 3 commits first it is one of 4's,
-    -- though it started before
-    ∷ (chosen_along optimistic (p10 ++ rest_of 0) (0 ∷ 1 ∷ [])
-    gives both_ready ++ repeated 6 (in_both [] ++ in_neither 14) ++ both_ready ++ repeated 6 (in_neither 14 ++ in_both []) ++ both_ready
-    ++ in_both [] ++ in_neither 14 ++ repeated 6 (in_both [] ++ in_both []) ++ repeated 6 (in_both (4 ∷ []) ++ in_neither 14) ++ both_ready)
-    ∷ (chosen Optimistic (events_of (take 16 p10 ++ rest_of 0)) (0 ∷ 1 ∷ []) gives in_neither 14 ++ in_both (3 ∷ []))
     ∷ []

@@ -4,11 +4,11 @@ use Rattle.model.specs.Limits.{writers}
 use Rattle.model.specs.Isolation.{Event, takes_step, cleans_at, events_of}
 use Rattle.model.specs.declared.Mode.TheVariants.{Optimistic, Pessimistic}
 use Rattle.model.specs.declared.Operation.TheVariants.{Put}
-use Rattle.model.specs.declared.Action.TheVariants.{Write, Index, Check, Commit}
+use Rattle.model.specs.declared.Action.TheVariants.{Start, LookUp, Read, Write, Index, Check, Commit}
 use Rattle.traces.specs.Cases.{scanned, read, instants, history, stored, replies, seen, cleaned, judged, committed_operation, does, Trace, ◌gives◌}
-use Rattle.traces.specs.Stories.{whole, whole_unchecked, p5}
-use Rattle.traces.specs.Tables.{in_pessimistic, with_writer, busy, with_horizon, with_base, with_held_base, cleanable, at_largest}
-use Rattle.traces.specs.Stated.{out_of_range_numbers, idle, is_inflight, is_completed}
+use Rattle.traces.specs.Stories.{whole, p5}
+use Rattle.traces.specs.Tables.{in_pessimistic, with_horizon, with_base, cleanable, at_largest}
+use Rattle.traces.specs.Stated.{in_range_numbers, out_of_range_numbers, idle, is_inflight, is_completed}
 
 -- keys 1 and 2 are put twice each, in groups 1 and 2: timestamps 1 and 3, and 2 and 4
 abbrev two_groups : List Event
@@ -38,8 +38,11 @@ abbrev reads_newest : List Event
 reads_newest = events_of (whole 0 (Put 1 10 0) ++ whole 0 (Put 1 11 0) ++ take 3 (whole 1 (Put 2 20 0)))
 
 -- the same in a pessimistic table, where no check comes
+abbrev whole_unchecked : ℕ → ℕ → List Event
+whole_unchecked w v = map (λ a. takes_step (does w a)) (Start (Put 1 v 0) ∷ LookUp ∷ Read ∷ Write ∷ Index ∷ Commit ∷ [])
+
 abbrev reads_newest_unchecked : List Event
-reads_newest_unchecked = events_of (whole_unchecked 0 (Put 1 10 0) ++ whole_unchecked 0 (Put 1 11 0) ++ take 3 (whole 1 (Put 2 20 0)))
+reads_newest_unchecked = whole_unchecked 0 10 ++ whole_unchecked 0 11 ++ events_of (take 3 (whole 1 (Put 2 20 0)))
 
 -- the places of the rows of key 5 in `cleanable`, by timestamp, and those at the ends of group 1's slice of timestamp 2 and beside it
 abbrev key_five : List ℕ
@@ -54,57 +57,8 @@ all_there = 1 ∷ 11 ∷ 1 ∷ 12 ∷ 1 ∷ 13 ∷ 1 ∷ 14 ∷ 1 ∷ 15 ∷ 1 �
 
 unfoldable pub cleaning_traces : List Trace
 cleaning_traces =
-    -- tables that no run reaches. Of each group the newest completed slice at or below c stays, and so do newer ones, uncompleted ones, and one of a
-    -- timestamp completed in another group; values stay
-    (cleaned cleanable 0 key_five gives 0 ∷ 0 ∷ all_there)
-    ∷ (cleaned cleanable 2 key_five gives 0 ∷ 2 ∷ all_there)
-    ∷ (cleaned cleanable 5 key_five gives 0 ∷ 5 ∷ 1 ∷ 11 ∷ 0 ∷ 12 ∷ 1 ∷ 13 ∷ 1 ∷ 14 ∷ 1 ∷ 15 ∷ 1 ∷ 16 ∷ 1 ∷ 17 ∷ 1 ∷ 18 ∷ [])
-    ∷ (cleaned cleanable 5 edges gives 0 ∷ 5 ∷ 1 ∷ 22 ∷ 0 ∷ 20 ∷ 0 ∷ 21 ∷ 1 ∷ 23 ∷ [])
-    ∷ (cleaned cleanable 8 key_five gives 0 ∷ 8 ∷ 0 ∷ 11 ∷ 0 ∷ 12 ∷ 1 ∷ 13 ∷ 0 ∷ 14 ∷ 1 ∷ 15 ∷ 1 ∷ 16 ∷ 1 ∷ 17 ∷ 1 ∷ 18 ∷ [])
-    ∷ (cleaned (in_pessimistic cleanable) 8 key_five gives 0 ∷ 8 ∷ 0 ∷ 11 ∷ 0 ∷ 12 ∷ 1 ∷ 13 ∷ 0 ∷ 14 ∷ 1 ∷ 15 ∷ 1 ∷ 16 ∷ 1 ∷ 17 ∷ 1 ∷ 18 ∷ [])
-    -- refused, nothing changes
-    ∷ (cleaned cleanable 9 key_five gives 34 ∷ 0 ∷ all_there)
-    ∷ (cleaned (with_horizon cleanable 6) 5 key_five gives 34 ∷ 6 ∷ all_there)
-    ∷ (cleaned (with_horizon cleanable 9) 9 key_five gives 17 ∷ 9 ∷ all_there)
-    ∷ (cleaned (with_base 0 3 1 2) 5 key_five gives 33 ∷ 0 ∷ all_there)
-    -- 33 for any writer, and for a base completed in another group than the writer's
-    ∷ (cleaned (with_base 15 3 1 2) 5 [] gives 33 ∷ 0 ∷ [])
-    ∷ (cleaned (with_base 0 3 0 2) 5 [] gives 33 ∷ 0 ∷ [])
-    ∷ (cleaned (with_base 0 3 1 1) 8 [] gives 33 ∷ 0 ∷ [])
-    -- in a pessimistic table too, whoever holds the group's lock; and for a base above the writer's own timestamp
-    ∷ (cleaned (in_pessimistic (with_base 0 3 1 2)) 5 [] gives 33 ∷ 0 ∷ [])
-    ∷ (cleaned with_held_base 5 [] gives 33 ∷ 0 ∷ [])
-    ∷ (cleaned (in_pessimistic (with_base 0 3 0 2)) 5 [] gives 33 ∷ 0 ∷ [])
-    ∷ (cleaned (with_writer cleanable 0 (busy 3 5 1 1 2)) 5 [] gives 33 ∷ 0 ∷ [])
-    -- not where the base is the newest of its own group at or below c, or newer, or not completed, or 0
-    ∷ (cleaned (with_base 0 3 1 2) 3 [] gives 0 ∷ 3 ∷ [])
-    ∷ (cleaned (with_base 0 3 1 1) 5 [] gives 0 ∷ 5 ∷ [])
-    ∷ (cleaned (with_base 0 3 1 6) 5 [] gives 0 ∷ 5 ∷ [])
-    ∷ (cleaned (with_base 0 3 1 3) 8 [] gives 0 ∷ 8 ∷ [])
-    ∷ (cleaned (with_base 0 3 1 8) 8 [] gives 0 ∷ 8 ∷ [])
-    ∷ (cleaned (with_base 0 3 1 0) 8 [] gives 0 ∷ 8 ∷ [])
-    -- nor at another phase
-    ∷ (cleaned (with_base 0 0 1 2) 5 [] gives 0 ∷ 5 ∷ [])
-    ∷ (cleaned (with_base 0 2 1 2) 5 [] gives 0 ∷ 5 ∷ [])
-    ∷ (cleaned (with_base 0 4 1 2) 5 [] gives 0 ∷ 5 ∷ [])
-    ∷ (cleaned (with_base 0 6 1 2) 5 [] gives 0 ∷ 5 ∷ [])
-    -- 17, then 34, then 33
-    ∷ (cleaned (with_horizon (with_base 0 3 1 2) 9) 10 [] gives 17 ∷ 9 ∷ [])
-    ∷ (cleaned (with_base 0 3 1 2) 9 [] gives 34 ∷ 0 ∷ [])
-    ∷ (cleaned (with_horizon (with_base 0 3 1 2) 6) 5 [] gives 34 ∷ 6 ∷ [])
-    -- 17, then 32, then 31 and 12; the instant call is not refused below the horizon
-    ∷ (scanned (with_horizon cleanable 9) [] 4 2 gives 17 ∷ 0 ∷ 99 ∷ 99 ∷ [])
-    ∷ (scanned (with_horizon cleanable 5) [] 4 2 gives 32 ∷ 0 ∷ 99 ∷ 99 ∷ [])
-    ∷ (scanned (with_horizon cleanable 4) [] 4 2 gives 31 ∷ 0 ∷ 99 ∷ 99 ∷ [])
-    ∷ (read (with_horizon cleanable 9) [] 4 32 gives 17 ∷ [])
-    ∷ (read (with_horizon cleanable 5) [] 4 32 gives 32 ∷ [])
-    ∷ (read (with_horizon cleanable 4) [] 4 32 gives 12 ∷ [])
-    ∷ (instants (with_horizon cleanable 5) [] (4 ∷ []) gives is_completed 1)
-    -- a horizon above the last timestamp, where that is 20 and where it is 128
-    ∷ (judged (with_horizon (at_largest 20) 21) gives out_of_range_numbers)
-    ∷ (judged (with_horizon (at_largest 128) 129) gives out_of_range_numbers)
     -- keys in two groups, cleaned at a timestamp between: what is seen at and above it stays, below it reads are refused, instants are as they were
-    ∷ (seen Optimistic two_groups 1 (3 ∷ 4 ∷ []) gives 0 ∷ at_three ++ at_four)
+    (seen Optimistic two_groups 1 (3 ∷ 4 ∷ []) gives 0 ∷ at_three ++ at_four)
     ∷ (seen Optimistic (two_groups ++ cleans_at 3 ∷ []) 1 (1 ∷ 2 ∷ 3 ∷ 4 ∷ []) gives 3 ∷ below_it 1 ++ below_it 2 ++ at_three ++ at_four)
     ∷ (seen Optimistic (two_groups ++ cleans_at 4 ∷ []) 1 (3 ∷ 4 ∷ []) gives 4 ∷ below_it 1 ++ at_four)
     -- 34 above the last timestamp and below the horizon; the same clean again, and later ones
@@ -131,4 +85,50 @@ cleaning_traces =
     gives 0 ∷ 0 ∷ 0 ∷ 1 ∷ 0 ∷ [])
     ∷ (seen Pessimistic (reads_newest_unchecked ++ cleans_at 2 ∷ []) 1 (1 ∷ 2 ∷ [])
     gives 2 ∷ below_it 0 ++ 0 ∷ 1 ∷ 1 ∷ 11 ∷ 0 ∷ 99 ∷ 99 ∷ 99 ∷ 0 ∷ 1 ∷ 11 ∷ 0 ∷ is_completed 0)
+    -- tables that no run reaches. Of each group the newest completed slice at or below c stays, and so do newer ones, uncompleted ones, and one of a
+    -- timestamp completed in another group; values stay
+    ∷ (cleaned cleanable 0 key_five gives 0 ∷ 0 ∷ all_there)
+    ∷ (cleaned cleanable 2 key_five gives 0 ∷ 2 ∷ all_there)
+    ∷ (cleaned cleanable 5 key_five gives 0 ∷ 5 ∷ 1 ∷ 11 ∷ 0 ∷ 12 ∷ 1 ∷ 13 ∷ 1 ∷ 14 ∷ 1 ∷ 15 ∷ 1 ∷ 16 ∷ 1 ∷ 17 ∷ 1 ∷ 18 ∷ [])
+    ∷ (cleaned cleanable 5 edges gives 0 ∷ 5 ∷ 1 ∷ 22 ∷ 0 ∷ 20 ∷ 0 ∷ 21 ∷ 1 ∷ 23 ∷ [])
+    ∷ (cleaned cleanable 8 key_five gives 0 ∷ 8 ∷ 0 ∷ 11 ∷ 0 ∷ 12 ∷ 1 ∷ 13 ∷ 0 ∷ 14 ∷ 1 ∷ 15 ∷ 1 ∷ 16 ∷ 1 ∷ 17 ∷ 1 ∷ 18 ∷ [])
+    ∷ (cleaned (in_pessimistic cleanable) 8 key_five gives 0 ∷ 8 ∷ 0 ∷ 11 ∷ 0 ∷ 12 ∷ 1 ∷ 13 ∷ 0 ∷ 14 ∷ 1 ∷ 15 ∷ 1 ∷ 16 ∷ 1 ∷ 17 ∷ 1 ∷ 18 ∷ [])
+    -- refused, nothing changes
+    ∷ (cleaned cleanable 9 key_five gives 34 ∷ 0 ∷ all_there)
+    ∷ (cleaned (with_horizon cleanable 6) 5 key_five gives 34 ∷ 6 ∷ all_there)
+    ∷ (cleaned (with_horizon cleanable 9) 9 key_five gives 17 ∷ 9 ∷ all_there)
+    ∷ (cleaned (with_base 0 3 1 2) 5 key_five gives 33 ∷ 0 ∷ all_there)
+    -- 33 for any writer, and for a base completed in another group than the writer's
+    ∷ (cleaned (with_base 15 3 1 2) 5 [] gives 33 ∷ 0 ∷ [])
+    ∷ (cleaned (with_base 0 3 0 2) 5 [] gives 33 ∷ 0 ∷ [])
+    ∷ (cleaned (with_base 0 3 1 1) 8 [] gives 33 ∷ 0 ∷ [])
+    ∷ (cleaned (in_pessimistic (with_base 0 3 1 2)) 5 [] gives 33 ∷ 0 ∷ [])
+    -- not where the base is the newest of its own group at or below c, or newer, or not completed, or 0
+    ∷ (cleaned (with_base 0 3 1 2) 3 [] gives 0 ∷ 3 ∷ [])
+    ∷ (cleaned (with_base 0 3 1 1) 5 [] gives 0 ∷ 5 ∷ [])
+    ∷ (cleaned (with_base 0 3 1 6) 5 [] gives 0 ∷ 5 ∷ [])
+    ∷ (cleaned (with_base 0 3 1 3) 8 [] gives 0 ∷ 8 ∷ [])
+    ∷ (cleaned (with_base 0 3 1 8) 8 [] gives 0 ∷ 8 ∷ [])
+    ∷ (cleaned (with_base 0 3 1 0) 8 [] gives 0 ∷ 8 ∷ [])
+    -- nor at another phase
+    ∷ (cleaned (with_base 0 0 1 2) 5 [] gives 0 ∷ 5 ∷ [])
+    ∷ (cleaned (with_base 0 2 1 2) 5 [] gives 0 ∷ 5 ∷ [])
+    ∷ (cleaned (with_base 0 4 1 2) 5 [] gives 0 ∷ 5 ∷ [])
+    ∷ (cleaned (with_base 0 6 1 2) 5 [] gives 0 ∷ 5 ∷ [])
+    -- 17, then 34, then 33
+    ∷ (cleaned (with_horizon (with_base 0 3 1 2) 9) 10 [] gives 17 ∷ 9 ∷ [])
+    ∷ (cleaned (with_base 0 3 1 2) 9 [] gives 34 ∷ 0 ∷ [])
+    ∷ (cleaned (with_horizon (with_base 0 3 1 2) 6) 5 [] gives 34 ∷ 6 ∷ [])
+    -- 17, then 32, then 31 and 12; the instant call is not refused below the horizon
+    ∷ (scanned (with_horizon cleanable 9) [] 4 2 gives 17 ∷ 0 ∷ 99 ∷ 99 ∷ [])
+    ∷ (scanned (with_horizon cleanable 5) [] 4 2 gives 32 ∷ 0 ∷ 99 ∷ 99 ∷ [])
+    ∷ (scanned (with_horizon cleanable 4) [] 4 2 gives 31 ∷ 0 ∷ 99 ∷ 99 ∷ [])
+    ∷ (read (with_horizon cleanable 9) [] 4 32 gives 17 ∷ [])
+    ∷ (read (with_horizon cleanable 5) [] 4 32 gives 32 ∷ [])
+    ∷ (read (with_horizon cleanable 4) [] 4 32 gives 12 ∷ [])
+    ∷ (instants (with_horizon cleanable 5) [] (4 ∷ []) gives is_completed 1)
+    -- a horizon above the last timestamp, where that is 20 and where it is 128; and one below it
+    ∷ (judged (with_horizon (at_largest 20) 21) gives out_of_range_numbers)
+    ∷ (judged (with_horizon (at_largest 128) 129) gives out_of_range_numbers)
+    ∷ (judged (with_horizon (at_largest 20) 1) gives in_range_numbers)
     ∷ []

@@ -3,15 +3,7 @@ pub mod Cases
 pub mod Stories
 pub mod Stated
 pub mod Tables
-pub mod Numbers
-pub mod Operations
-pub mod Searches
-pub mod Entries
-pub mod Refusals
-pub mod OutOfRange
 pub mod Pessimistic
-pub mod Candidates
-pub mod Reads
 pub mod Cleaning
-pub mod AtTheLimits
+pub mod Candidates
 pub mod Traces

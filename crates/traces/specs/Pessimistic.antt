@@ -10,10 +10,24 @@ use Rattle.model.specs.declared.Step.{Step}
 use Rattle.run.specs.Runs.{of_log}
 use Rattle.traces.specs.Cases.{ran, answers, each_answer, scanned, stands, instants, history, stored, judged, on_parts}
 use Rattle.traces.specs.Cases.{writer_numbers, committed_operation, does, Trace, ◌gives◌}
-use Rattle.traces.specs.Stories.{whole_unchecked, rest_unchecked, p5_waits, every_kind_log, printed_log}
+use Rattle.traces.specs.Stories.{every_kind_log, printed_log}
 use Rattle.traces.specs.Tables.{pessimistic, in_pessimistic, with_lock_at}
-use Rattle.traces.specs.Tables.{putting, busy, removing, maker, at_phase, two_completed, at_largest_but}
-use Rattle.traces.specs.Stated.{out_of_range_numbers, locks_with, ready_numbers, idle, is_requested, is_inflight, is_completed}
+use Rattle.traces.specs.Tables.{putting, busy, removing, maker, at_phase, two_completed, at_largest, at_largest_but}
+use Rattle.traces.specs.Stated.{in_range_numbers, out_of_range_numbers, locks_with, ready_numbers, idle, is_requested, is_inflight, is_completed}
+
+-- a started operation carried out to its commit, from its look up on: no check comes
+abbrev pub rest_unchecked : ℕ → List Step
+rest_unchecked w = does w LookUp ∷ does w Read ∷ does w Write ∷ does w Index ∷ does w Commit ∷ []
+
+-- an operation carried out whole
+abbrev pub whole_unchecked : ℕ → Operation → List Step
+whole_unchecked w op = does w (Start op) ∷ rest_unchecked w
+
+-- P5's story: writers 0 and 1 put two keys in one group; writer 1's read is refused until writer 0 has committed, and then it commits too
+abbrev pub p5_waits : List Step
+p5_waits =
+    does 0 (Start (Put 0 10 0)) ∷ does 1 (Start (Put 1 11 0)) ∷ does 0 LookUp ∷ does 1 LookUp ∷ does 0 Read ∷ does 1 Read ∷ does 0 Write ∷ does 0 Index
+    ∷ does 0 Commit ∷ does 1 Read ∷ does 1 Write ∷ does 1 Index ∷ does 1 Commit ∷ []
 
 -- P6's story: two puts of one key in two groups, both looked up before the first commits; then the second's index step
 abbrev p6_unchecked : List Step
@@ -147,7 +161,8 @@ pessimistic_traces =
     gives 2 ∷ many_locks ++ 6 ∷ writer_numbers (maker (busy 6 6 5 1 0)))
     -- a step on the parts of a pessimistic table
     ∷ (on_parts (two_completed Pessimistic (locks_with 1 6) (busy 2 6 1 1 0)) (does 0 Read) gives 19 ∷ [])
-    -- the grounds of 17 are the same: the first lock and the last too large
+    -- the grounds of 17 are the same: every number the largest; the first lock and the last too large
+    ∷ (judged (in_pessimistic (at_largest 20)) gives in_range_numbers)
     ∷ (judged (in_pessimistic (at_largest_but 20 (λ s. with_lock_at s 0 17))) gives out_of_range_numbers)
     ∷ (judged (in_pessimistic (at_largest_but 20 (λ s. with_lock_at s 7 17))) gives out_of_range_numbers)
     ∷ []

@@ -1,4 +1,4 @@
--- The lists of steps, and the logs, that the traces are about, but for those that one part alone has and names itself.
+-- The lists of steps, and the logs, that the traces are about, but for those of the pessimistic mode alone.
 use Rattle.std.specs.Prelude.{ℕ, List, [], ◌∷◌, ◌++◌, map, take, replicate}
 use Rattle.model.specs.declared.Operation.{Operation}
 use Rattle.model.specs.declared.Operation.TheVariants.{Put, Remove}
@@ -14,26 +14,11 @@ rest_of w = does w LookUp ∷ does w Read ∷ does w Write ∷ does w Index ∷ 
 abbrev pub whole : ℕ → Operation → List Step
 whole w op = does w (Start op) ∷ rest_of w
 
--- a started operation carried out to its commit, from its look up on, in a pessimistic table: no check comes
-abbrev pub rest_unchecked : ℕ → List Step
-rest_unchecked w = does w LookUp ∷ does w Read ∷ does w Write ∷ does w Index ∷ does w Commit ∷ []
-
--- an operation carried out whole
-abbrev pub whole_unchecked : ℕ → Operation → List Step
-whole_unchecked w op = does w (Start op) ∷ rest_unchecked w
-
 -- writers 0 and 1 put two keys in one group, and both read before `first` commits; then the check of `second`
 abbrev pub p5 : ℕ → ℕ → List Step
 p5 first second =
     does 0 (Start (Put 0 10 0)) ∷ does 1 (Start (Put 1 11 0)) ∷ does 0 LookUp ∷ does 1 LookUp ∷ does 0 Read ∷ does 1 Read ∷ does first Write
     ∷ does first Index ∷ does first Check ∷ does first Commit ∷ does second Write ∷ does second Index ∷ does second Check ∷ []
-
--- P5's story in a pessimistic table: writers 0 and 1 put two keys in one group; writer 1's read is refused until writer
--- 0 has committed, and then it commits too
-abbrev pub p5_waits : List Step
-p5_waits =
-    does 0 (Start (Put 0 10 0)) ∷ does 1 (Start (Put 1 11 0)) ∷ does 0 LookUp ∷ does 1 LookUp ∷ does 0 Read ∷ does 1 Read ∷ does 0 Write ∷ does 0 Index
-    ∷ does 0 Commit ∷ does 1 Read ∷ does 1 Write ∷ does 1 Index ∷ does 1 Commit ∷ []
 
 -- two puts of one key in two groups, both looked up before the first commits; then the second's index step
 abbrev pub p6 : List Step

@@ -1,6 +1,6 @@
 -- The tables that the traces begin with: the fresh ones, and others that no run reaches.
 use Rattle.std.specs.Prelude.{ℕ, ◌+◌, ◌-◌, ◌*◌, true, false, List, [], ◌∷◌, ◌++◌, length, replicate, set}
-use Rattle.model.specs.Limits.{writers, timestamps, note_places}
+use Rattle.model.specs.Limits.{writers, timestamps, noted}
 use Rattle.model.specs.State.{Shared, Notes, State, notes, ready, fresh, requested, inflight, completed, row_at}
 use Rattle.model.specs.State.{with_last, with_locks, with_index, with_timeline, with_present, with_values}
 use Rattle.model.specs.Rules.{with_made}
@@ -114,19 +114,6 @@ one_timestamp = with_writer (one_inflight (busy 3 2 0 1 0)) 1 (busy 3 5 1 1 0)
 abbrev pub one_key_twice : State
 one_key_twice = table (with_row 1 1 5 7 (with_row 0 2 5 8 (with_instants (completed 1 ∷ completed 0 ∷ []))))
 
--- three groups show key 5, two of them one value, and its index entry names the third
-abbrev pub one_key_thrice : State
-one_key_thrice =
-    table (with_entry (with_row 2 1 5 7 (with_row 5 2 5 7 (with_row 6 3 5 8 (with_instants (completed 2 ∷ completed 5 ∷ completed 6 ∷ []))))) 5 7)
-
--- two groups show every key
-abbrev pub every_key_twice : State
-every_key_twice = table (with_present (with_instants (completed 0 ∷ completed 1 ∷ [])) (replicate 32768 true))
-
--- timestamp 1 is completed in group 1, and group 0 has a row of key 5 there
-abbrev pub other_groups_instant : State
-other_groups_instant = table (with_row 0 1 5 7 (with_instants (completed 1 ∷ inflight 0 ∷ [])))
-
 -- in group 0 the slice of timestamp 1 has keys 0 and 2, and a value under key 1, which is absent; at timestamp 2 rows stand in groups 0 and 1;
 -- writer 0 removes key 2 in group 0 with a value in its record, writer 1 puts key 1 in group 1 with base 0
 abbrev pub stale_rows : State
@@ -170,7 +157,7 @@ at_largest n =
       horizon = n;
       shared = with_row 7 n 0 largest_number (with_index (with_locks (with_instants (replicate n (completed 7))) (replicate 8 16)) (replicate 32 8));
       writers = replicate writers (maker (putting largest_number 6 31 7 n n));
-      notes = notes (replicate timestamps 128) (replicate writers 128) (replicate note_places n);
+      notes = notes (replicate timestamps 128) (replicate writers 128) (replicate noted n);
     }
 
 -- the same, with something else in what writers share, or in one writer
@@ -190,12 +177,6 @@ cleanable =
 -- the same, where a writer at a phase, in a file group, has a base
 abbrev pub with_base : ℕ → ℕ → ℕ → ℕ → State
 with_base w phase group base = with_writer cleanable w (busy phase 5 group 8 base)
-
--- the same, pessimistic, where the writer holds its group's lock
-abbrev pub with_held_base : State
-with_held_base =
-    let st = with_base 0 3 1 2 in
-    record { mode = Pessimistic; horizon = 0; shared = with_lock_at st.shared 1 1; writers = st.writers; notes = st.notes }
 
 -- a table where every place is 9, every count 5, and timestamp 1 is noted everywhere
 abbrev pub all_noted : State → State

@@ -1,4 +1,6 @@
 // What the program prints for a log.
+#![tactic(auto)]
+
 mod text;
 
 ghost use Rattle.std.specs.Prelude.{◌≡◌};

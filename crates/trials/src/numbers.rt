@@ -1,6 +1,6 @@
 // A table as a row of numbers, every field of it: mode, horizon, last timestamp, locks, index, timeline, places, counts, noted timestamps, and the writers.
 use common::Word;
-use model::limits::{GROUPS, KEYS, NOTE_PLACES, TIMESTAMPS, WRITERS};
+use model::limits::{GROUPS, KEYS, NOTED, TIMESTAMPS, WRITERS};
 use model::{Mode, Table, Writer};
 
 // Where the arrays begin.
@@ -16,7 +16,7 @@ const COUNTS: usize = PLACES + TIMESTAMPS;
 
 const NOTED_TIMESTAMPS: usize = COUNTS + WRITERS;
 
-const WRITERS_NUMBERS: usize = NOTED_TIMESTAMPS + NOTE_PLACES;
+const WRITERS_NUMBERS: usize = NOTED_TIMESTAMPS + NOTED;
 
 // The numbers of a writer.
 const FIELDS: usize = 8;

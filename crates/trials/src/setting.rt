@@ -7,7 +7,7 @@ use model::limits::ROWS;
 use model::{Table, Value};
 
 // Two numbers, and where they end.
-#[derive(Drop)]
+#[derive(Clone, Copy)]
 pub struct Pair {
     pub first: Word,
     pub second: Word,

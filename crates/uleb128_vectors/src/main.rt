@@ -1,5 +1,7 @@
 // Holds leb128 to the GNU assembler's .uleb128: standard input has the bytes that `as` made of numbers.s.
 // Prints each number with the bytes that leb128 makes of it, then the stop of the reading and its place, 0 and the input's size where all was read.
+#![tactic(auto)]
+
 use common::Word;
 use leb128::Decoded;
 use libc::{STDIN_FILENO, STDOUT_FILENO};

@@ -1,7 +1,7 @@
 -- The fields of the shared part that a call takes. What a call promises holds for any shared part with these fields set, so that a field
 -- that the call does not take is not named.
 use Rattle.std.specs.Prelude.{ℕ, Bool}
-use Rattle.std.specs.Borrow.{Bor, MutBor}
+use Rattle.std.specs.Borrow.{MutBor}
 use denote.Triple.Both.{Both}
 use Rattle.common.specs.Lent.{Lent}
 use Rattle.model.specs.State.{Shared, with_last, with_locks, with_index, with_timeline, with_present, with_values}
@@ -26,7 +26,7 @@ abbrev pub together : Fields → Fields → Fields
 together a b = record { before = λ s. b.before (a.before s); after = λ s. b.after (a.after s) }
 
 -- all fields that a step may change
-abbrev pub all_fields : Both (Bor ℕ) (Bor ℕ) → Lent ℕ → Lent ℕ → Lent ℕ → Lent Bool → Lent ℕ → Fields
+abbrev pub all_fields : Both (MutBor ℕ) (MutBor ℕ) → Lent ℕ → Lent ℕ → Lent ℕ → Lent Bool → Lent ℕ → Fields
 all_fields last locks index timeline present values =
     together (together (changing with_last last) (changing with_locks locks))
     (together (together (changing with_index index) (changing with_timeline timeline)) (together (changing with_present present) (changing with_values values)))

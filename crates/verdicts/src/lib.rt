@@ -1,4 +1,6 @@
 // What a rule says of a step, a verdict, and the one place where it is carried out: where an operation ends.
+#![tactic(auto)]
+
 mod writer;
 
 ghost use Rattle.std.specs.Prelude.{◌≡◌};
@@ -14,7 +16,7 @@ use model::limits::{GROUPS, KEYS};
 pub use writer::{moved, ready, with_made};
 
 // What a rule says of a step: it is refused, or the operation ends, or the writer goes on as the record given.
-#[derive(Drop)]
+#[derive(Clone, Copy)]
 pub enum Verdict {
     Refused(u8),
     Ended(u8),
@@ -22,7 +24,7 @@ pub enum Verdict {
 }
 
 // What an action gave: its answer, and the writer's record after it.
-#[derive(Drop)]
+#[derive(Clone, Copy)]
 pub struct Acted {
     pub answer: u8,
     pub writer: Writer,

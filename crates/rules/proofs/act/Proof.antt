@@ -11,40 +11,21 @@ use borrow.Author.Rules.{rules}
 use Rattle.rules.proofs.act.Statement.{statement}
 use Rattle.rules.proofs.act.Tie as tie
 
-unmoved-requires : tie.Need-unmoved-requires
-unmoved-requires c κs = search rules
-
 returns : tie.Need-returns
 unfolding act_on_parts
-returns c = λ o. rw (c.unmoved.ensures.0, c.unmoved.ensures.1, c.before.if1.true)
-
-unmoved-requires-2 : tie.Need-unmoved-requires-2
-unmoved-requires-2 c κs = search rules
+returns c = λ o. rw c.if1.true
 
 returns-2 : tie.Need-returns-2
 unfolding act_on_parts
-returns-2 c = let t = c.before in
-    λ o. rw (c.unmoved2.ensures.0, c.unmoved2.ensures.1, t.before.before.if1.false, le-leb _ _ t.if2.true)
+returns-2 c = λ o. rw (c.before.before.if1.false, le-leb _ _ c.if2.true)
 
 actor-in-range-requires : tie.Need-actor-in-range-requires
 actor-in-range-requires c κs = search rules
 
-unmoved-requires-3 : tie.Need-unmoved-requires-3
-unmoved-requires-3 c κs = search rules
-
 returns-3 : tie.Need-returns-3
 unfolding act_on_parts
-returns-3 c = let i = c.before in
-    let t = i.before.before.before in
-    λ o.
-    rw (
-      c.unmoved3.ensures.0,
-      c.unmoved3.ensures.1,
-      t.before.before.if1.false,
-      lt-leb _ _ t.if2.false,
-      ← i.before.actor-in-range.ensures,
-      i.if3.true,
-    )
+returns-3 c = let t = c.before.before.before in
+    λ o. rw (t.before.before.if1.false, lt-leb _ _ t.if2.false, ← c.before.actor-in-range.ensures, c.if3.true)
 
 cast-w : tie.Need-overflow-cast-w
 cast-w c = search rules
@@ -69,12 +50,9 @@ pub act-spec : {M : Type 1} → statement M
 act-spec =
     tie.close
     (tie.spec
-    unmoved-requires
     returns
-    unmoved-requires-2
     returns-2
     actor-in-range-requires
-    unmoved-requires-3
     returns-3
     cast-w
     decide-requires

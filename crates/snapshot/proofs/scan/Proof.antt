@@ -3,7 +3,7 @@ use mathlib.Core.List.{[]}
 use mathlib.Core.Path.{refl, ◌∙◌}
 use borrow.Author.Rules.{rules}
 use Rattle.model.specs.State.{state_of}
-use Rattle.snapshot.proofs.Snapshots.{in_range_coded, not_refused, scan_refused, scan_shown}
+use Rattle.snapshot.proofs.Snapshots.{in_range_coded, not_refused, scan_refused, scan_listed}
 use Rattle.snapshot.proofs.scan.Statement.{statement}
 use Rattle.snapshot.proofs.scan.Tie as tie
 
@@ -36,7 +36,7 @@ newest-of-groups-requires c κs =
     in_range_coded st (not_refused st _ (asked.parts-in-range.ensures st refl) c.before.refusal-of.ensures c.if1.false).fine
 
 list-requires : tie.Need-list-requires
-list-requires c κs = search rules
+list-requires c κs = c.before.newest-of-groups.ensures.within
 
 same-length-2 : tie.Need-same-length-2
 same-length-2 c = search rules
@@ -50,7 +50,7 @@ returns-2 c =
     let start = asked.before.before.before.before.before.before.before.before.before.before.before.before.before.before.before in
     let st = state_of start.args.t _ _ in
     let readable = not_refused st _ (asked.parts-in-range.ensures st refl) tested.before.refusal-of.ensures tested.if1.false in
-    listed.list.ensures ∙ scan_shown st _ newest.newest-of-groups.ensures readable _
+    listed.list.ensures ∙ scan_listed st _ newest.newest-of-groups.ensures readable _
 
 pub scan-spec : {M : Type 1} → statement M
 scan-spec =

@@ -1,6 +1,4 @@
--- `decide` meets its contract: each arm by the contract of the rule's function that it calls, at the whole shared
--- part. `returns` to `returns-8` are the arms of the eight actions in their order: start, look up, read, write,
--- index, check, commit, abort.
+-- `decide` meets its contract: each arm by the contract of the rule's function that it calls, at the whole shared part.
 use mathlib.Core.Path.{refl, sym, ap}
 use Rattle.model.specs.Rules.{ruled}
 use Rattle.verdicts.proofs.Verdicts.{at_state}

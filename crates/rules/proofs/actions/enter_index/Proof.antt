@@ -1,6 +1,4 @@
--- `enter_index` follows its rule: by the tests of the rule, which have the values that the branches show. `returns`
--- is 14, another phase; `returns-2` is 16, the table lock is another writer's; `returns-3` is 4, the key is another
--- group's; `returns-4` is 2, a remove without an entry; `returns-5` goes on.
+-- `enter_index` follows its rule: by the tests of the rule, which have the values that the branches show.
 use borrow.Author.Tests.{eq-eqb, ne_eqb}
 use Rattle.model.specs.Rules.{enter_index}
 use borrow.Author.Rules.{rules}

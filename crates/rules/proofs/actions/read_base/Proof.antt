@@ -1,6 +1,4 @@
--- `read_base` follows its rule: by the tests of the rule, which have the values that the branches show. `returns` is
--- 14, another phase; `returns-2` is 19, the group's lock is another writer's; `returns-3` is 3, the group has a newer
--- commit; `returns-4` goes on.
+-- `read_base` follows its rule: by the tests of the rule, which have the values that the branches show.
 use borrow.Author.Tests.{eq-eqb, ne_eqb}
 use Rattle.model.specs.Rules.{read_base}
 use borrow.Author.Rules.{rules}

@@ -1,13 +1,13 @@
 -- `numbers_changed` is safe and ends: the loop goes up to its end.
 use Prim.Native.Nat.{ℕ, ◌+◌, ◌*◌, ◌≤◌, ◌-◌}
 use borrow.Author.Rules.{rules}
-use Rattle.model.specs.Limits.{writers, keys, groups, timestamps, note_places}
+use Rattle.model.specs.Limits.{writers, keys, groups, timestamps, noted}
 use Rattle.trials.proofs.changes.numbers_changed.Statement.{statement}
 use Rattle.trials.proofs.changes.numbers_changed.Tie as tie
 
 -- mode, horizon and last timestamp, the arrays, and eight numbers of each writer
 abbrev numbers : ℕ
-numbers = 3 + groups + keys + timestamps + timestamps + writers + note_places + 8 * writers
+numbers = 3 + groups + keys + timestamps + timestamps + writers + noted + 8 * writers
 
 abbrev invariant-loop : tie.invariant-loop
 invariant-loop before after place₀ place = place ≤ numbers

@@ -1,0 +1,14 @@
+-- `newest_above` meets its contract. The loop's invariant: `looked_at` timestamps have been looked at, those above n, and none is a hit. The
+-- measure is n.
+use mathlib.Core.Path.{sym, ◌∙◌}
+use native.Mathlib.Omega.{arith}
+use borrow.Author.Rules.{rules}
+use borrow.Author.Tests.{eqb-true, eqb-false}
+use Rattle.metadata.proofs.Looking.{Looked, look_first, look_hit, look_miss, look_end}
+use Rattle.metadata.proofs.timeline.newest_above.Given as goal
+
+abbrev pub invariant-loop-n : goal.invariant-loop-n
+invariant-loop-n l = Looked l.timeline l.group l.base l.last l.n l.looked-at
+
+abbrev pub decreases-loop-n : goal.decreases-loop-n
+decreases-loop-n l = l.n
