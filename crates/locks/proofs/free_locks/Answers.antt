@@ -1,12 +1,11 @@
 -- `free_locks` meets its contract. The loop's invariant: each lock passed is released. The measure is the number of locks left.
 -- the locks once all are passed
-use Prim.Native.Nat.{ℕ, ◌-◌, ◌≤◌}
+use Prim.Native.Nat.{ℕ, ◌≤◌}
 use native.Mathlib.Omega.{arith}
 use mathlib.Core.List.{List}
 use mathlib.Core.Path.{◌≡◌, refl, sym, ◌∙◌}
 use lib.ListN.{length, length-map}
 use lib.Seq.{ext_get_or}
-use borrow.Author.Rules.{rules}
 use Rattle.common.proofs.Loops.{Changed, change_none, change_next, change_end}
 use Rattle.model.specs.Rules.{released, freed}
 use Rattle.model.proofs.Locks.{freed_at}

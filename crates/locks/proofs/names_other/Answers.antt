@@ -1,5 +1,4 @@
 -- `names_other` meets its contract, by its test.
-use borrow.Author.Rules.{rules}
 use Rattle.common.proofs.Tests.{tests}
 use Rattle.locks.proofs.names_other.Goals as goal
 

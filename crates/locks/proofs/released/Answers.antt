@@ -1,6 +1,5 @@
 -- `released` meets its contract, by its test.
 use Rattle.common.proofs.Tests.{tests}
-use borrow.Author.Rules.{rules}
 use Rattle.locks.proofs.released.Goals as goal
 
 pub returns-then-lock-w : goal.returns-then-lock-w

@@ -1,17 +1,15 @@
 -- `take_lock` meets its contract, by its tests: past the last lock nothing is set.
 use mathlib.Core.Path.{sym}
 use lib.Seq.{set_out}
-use borrow.Author.Tests.{not-true, not-false}
-use borrow.Author.Rules.{rules}
 use Rattle.locks.proofs.take_lock.Goals as goal
 
 pub returns-then-not-takes_lock : goal.returns-then-not-takes_lock
-returns-then-not-takes_lock c = rw (← c.takes_lock.ensures, not-true c.takes_lock.result c.if-not-takes_lock.true)
+returns-then-not-takes_lock c = rw (← c.takes_lock.ensures, c.if-not-takes_lock.true)
 
 pub returns-then-place-locks : goal.returns-then-place-locks
 returns-then-place-locks c = let takes = c.takes_lock in
-    rw (← takes.ensures, not-false takes.result c.if-not-takes_lock.false, ← c.guard-place.ensures) (sym (set_out _ _ _ c.if-place-locks.true))
+    rw (← takes.ensures, c.if-not-takes_lock.false, ← c.guard-place.ensures) (sym (set_out _ _ _ c.if-place-locks.true))
 
 pub returns : goal.returns
 returns c = let takes = c.takes_lock in
-    rw (← takes.ensures, not-false takes.result c.if-not-takes_lock.false, ← c.guard-place.ensures)
+    rw (← takes.ensures, c.if-not-takes_lock.false, ← c.guard-place.ensures)

@@ -1,5 +1,4 @@
 -- `takes_lock` meets its contract, by that of `lock_phase`.
-use borrow.Author.Rules.{rules}
 use Rattle.locks.proofs.takes_lock.Goals as goal
 
 pub returns : goal.returns

@@ -1,12 +1,11 @@
 -- `guard` meets its contract, by cases of the mode.
 use Rattle.model.specs.Modes.{guard}
-use borrow.Author.Rules.{rules}
 use Rattle.locks.proofs.modes.guard.Goals as goal
 
 pub returns-in-Optimistic : goal.returns-in-Optimistic
 unfolding guard
-returns-in-Optimistic c = rw c.enum_told-1.given.1
+returns-in-Optimistic c = rw c.in-Optimistic.is
 
 pub returns-in-Pessimistic : goal.returns-in-Pessimistic
 unfolding guard
-returns-in-Pessimistic c = rw c.enum_told-in-Pessimistic-1.given.1
+returns-in-Pessimistic c = rw c.in-Pessimistic.is
