@@ -1,5 +1,5 @@
 -- The laws of `metadata`; a module uses only those before it.
 pub mod Largest
-pub mod Search
+pub mod SearchLaws
 pub mod Looking
 pub mod Zeros

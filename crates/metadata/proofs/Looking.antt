@@ -15,7 +15,7 @@ use Rattle.model.specs.Snapshot.{instant_of}
 use Rattle.model.proofs.CompletedInstants.{newest_hit, newest_miss, newest_of_lem}
 use Rattle.metadata.specs.Search.{newest_above}
 use Rattle.metadata.specs.declared.timeline.Search.TheVariants.{Hit, NoHit}
-use Rattle.metadata.proofs.Search.{newest_above_lem}
+use Rattle.metadata.proofs.SearchLaws.{newest_above_lem}
 
 module _ (timeline : List ℕ) where
   pub instant_slot : (n : ℕ) → 0 < n → instant_of timeline n ≡ get_or timeline (n - 1) 0

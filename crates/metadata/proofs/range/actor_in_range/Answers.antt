@@ -2,7 +2,6 @@
 use mathlib.Core.Bool.{and-true}
 use borrow.Author.Tests.{le-leb, lt-leb}
 use Rattle.model.specs.Range.{writer_in_range}
-use borrow.Author.Rules.{rules}
 use Rattle.metadata.proofs.range.actor_in_range.Goals as goal
 
 pub returns-then-last : goal.returns-then-last

@@ -1,7 +1,6 @@
 -- `in_range` meets its contract, by that of the test of a table in parts.
 use mathlib.Core.Path.{refl}
 use Rattle.model.specs.State.{state_of}
-use borrow.Author.Rules.{rules}
 use Rattle.metadata.proofs.range.in_range.Goals as goal
 
 pub returns : goal.returns

@@ -1,12 +1,9 @@
 -- `largest` meets its contract. The loop's invariant: the larger of `most` and the largest number still ahead is the result.
 -- The measure is the number of numbers left.
 use Prim.Native.Nat.{◌-◌, max}
-use native.Mathlib.Nat.{zero-max}
-use mathlib.Core.Path.{◌≡◌, sym, ◌∙◌}
+use mathlib.Core.Path.{◌≡◌}
 use lib.ListN.{length, drop}
-use borrow.Author.Rules.{rules}
 use Rattle.metadata.specs.Largest.{largest}
-use Rattle.metadata.proofs.Largest.{largest_next, largest_end}
 use Rattle.metadata.proofs.range.largest.Given as goal
 
 abbrev pub invariant-loop-i : goal.invariant-loop-i

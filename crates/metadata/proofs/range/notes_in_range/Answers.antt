@@ -2,7 +2,6 @@
 use mathlib.Core.Bool.{and-false, and-true}
 use mathlib.Core.Path.{◌∙◌}
 use borrow.Author.Tests.{le-leb, lt-leb}
-use borrow.Author.Rules.{rules}
 use Rattle.metadata.proofs.Largest.{at_most_largest}
 use Rattle.metadata.proofs.range.notes_in_range.Goals as goal
 

@@ -4,7 +4,6 @@ use mathlib.Core.Path.{◌∙◌}
 use borrow.Author.Tests.{le-leb, lt-leb}
 use Rattle.model.specs.Range.{in_range}
 use Rattle.metadata.proofs.Largest.{at_most_largest, none_largest}
-use borrow.Author.Rules.{rules}
 use Rattle.metadata.proofs.range.shared_in_range.Goals as goal
 
 pub returns-then-last : goal.returns-then-last

@@ -1,7 +1,6 @@
 -- `writer_in_range` meets its contract: a writer that keeps zeros is in range, and each branch past that gives the test that it stands for.
 use mathlib.Core.Bool.{and-true}
 use mathlib.Core.Path.{sym, ◌∙◌}
-use borrow.Author.Rules.{rules}
 use Rattle.common.proofs.Tests.{tests}
 use Rattle.metadata.proofs.Zeros.{zeros_in_range}
 use Rattle.metadata.proofs.range.writer_in_range.Goals as goal

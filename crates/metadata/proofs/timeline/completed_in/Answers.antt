@@ -1,5 +1,4 @@
 -- `completed_in` meets its contract, by that of `instant_of`.
-use borrow.Author.Rules.{rules}
 use Rattle.metadata.proofs.timeline.completed_in.Goals as goal
 
 pub returns : goal.returns

@@ -1,7 +1,6 @@
 -- `instant_of` meets its contract: at timestamp 0 and past the end of the timeline the definition gives 0.
 use mathlib.Core.Path.{sym}
 use native.Mathlib.Omega.{arith}
-use borrow.Author.Rules.{rules}
 use Rattle.metadata.proofs.Looking.{instant_slot, instant_above}
 use Rattle.metadata.proofs.timeline.instant_of.Goals as goal
 

@@ -2,9 +2,8 @@
 -- measure is n.
 use mathlib.Core.Path.{sym, ◌∙◌}
 use native.Mathlib.Omega.{arith}
-use borrow.Author.Rules.{rules}
 use borrow.Author.Tests.{eqb-true, eqb-false}
-use Rattle.metadata.proofs.Looking.{Looked, look_first, look_hit, look_miss, look_end}
+use Rattle.metadata.proofs.Looking.{look_first, look_hit, look_miss, look_end}
 use Rattle.metadata.proofs.timeline.newest_above.Goals as goal
 
 pub loop-n-init : goal.loop-n-init

@@ -1,7 +1,7 @@
 -- `check_conflict` follows its rule: a hit of the search tells that a timestamp above the base is completed, and no hit that none is.
 use borrow.Author.Tests.{lt-ltb, le-ltb}
 use Rattle.model.specs.Rules.{check_conflict}
-use Rattle.metadata.proofs.Search.{tells}
+use Rattle.metadata.proofs.SearchLaws.{tells}
 use borrow.Author.Rules.{rules}
 use Rattle.rules.proofs.actions.check_conflict.Statement.{statement}
 use Rattle.rules.proofs.actions.check_conflict.Tie as tie
