@@ -1,6 +1,6 @@
 // A slice is stored: the rows of its base are copied, or cleared for base 0, and the one of the writer's key is set. It
 // is dropped: all are cleared. What rows are present and their values have functions of their own, alike but for the
-// type: the language has no generics.
+// type.
 ghost use Rattle.std.specs.Prelude.{◌≡◌, false, ◌<◌, ◌≤◌};
 ghost use Rattle.model.specs.Limits.{keys, groups, timestamps};
 ghost use Rattle.model.specs.Rules.{copied, sliced};

@@ -2,7 +2,6 @@
 use native.Mathlib.Omega.{arith}
 use mathlib.Core.Path.{sym, ◌∙◌}
 use Rattle.model.proofs.Notes.{notes_past, notes_refused, notes_started, notes_same, notes_committed, notes_ended}
-use borrow.Author.Rules.{rules}
 use Rattle.notes.proofs.note.Goals as goal
 
 pub returns-then-w-ge-WRITERS : goal.returns-then-w-ge-WRITERS

@@ -6,7 +6,6 @@ use Rattle.common.proofs.Functions.{get_d_fresh}
 use Rattle.model.specs.Limits.{writers}
 use Rattle.model.specs.State.{notes}
 use Rattle.notes.proofs.RowLoops.{row_same}
-use borrow.Author.Rules.{rules}
 use Rattle.notes.proofs.note_end.Goals as goal
 
 pub returns : goal.returns

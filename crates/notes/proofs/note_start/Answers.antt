@@ -4,7 +4,6 @@ use native.Mathlib.Omega.{arith}
 use Rattle.model.specs.Limits.{writers}
 use Rattle.model.specs.State.{notes}
 use Rattle.notes.proofs.RowLoops.{row_same}
-use borrow.Author.Rules.{rules}
 use Rattle.notes.proofs.note_start.Goals as goal
 
 pub returns : goal.returns

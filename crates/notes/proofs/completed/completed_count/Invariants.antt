@@ -1,9 +1,7 @@
 -- `completed_count` meets its contract. The loop's invariant is `CountTurn`; the measure is the number of instants left.
 use Prim.Native.Nat.{◌-◌}
-use native.Mathlib.Omega.{arith}
 use Rattle.model.specs.Limits.{timestamps}
-use Rattle.notes.proofs.Counting.{CountTurn, count_starts, count_goes_on, count_ends, count_fits}
-use borrow.Author.Rules.{rules}
+use Rattle.notes.proofs.Counting.{CountTurn}
 use Rattle.notes.proofs.completed.completed_count.Given as goal
 
 abbrev pub invariant-loop-i : goal.invariant-loop-i

@@ -2,7 +2,6 @@
 use mathlib.Core.Path.{sym}
 use native.Mathlib.Omega.{arith}
 use Rattle.notes.proofs.Counting.{set_past, set_slot}
-use borrow.Author.Rules.{rules}
 use Rattle.notes.proofs.completed.note_completion.Goals as goal
 
 pub returns-then-slot-places : goal.returns-then-slot-places

@@ -1,7 +1,6 @@
 -- `others_completed` meets its contract: a timestamp that has no instant leaves the count, and any other takes its own part out of it.
 use native.Mathlib.Omega.{arith}
 use Rattle.notes.proofs.Counting.{counted_as, others_none, others_past, others_less}
-use borrow.Author.Rules.{rules}
 use Rattle.notes.proofs.completed.others_completed.Goals as goal
 
 pub returns-then-ts-eq0 : goal.returns-then-ts-eq0

@@ -1,12 +1,7 @@
 -- `held_timestamps` meets its contract. The loop's invariant: each writer passed has been asked; the measure is the
 -- number of writers left.
-use Prim.Native.Nat.{◌-◌}
 use native.Mathlib.Omega.{arith}
-use lib.ListN.{get_or}
-use Rattle.model.specs.Limits.{writers}
-use Rattle.model.specs.State.{ready}
-use Rattle.model.specs.Notes.{held_by}
-use Rattle.common.proofs.Loops.{SetUpto, set_none, set_next, set_end}
+use Rattle.common.proofs.Loops.{set_none, set_next, set_end}
 use borrow.Author.Rules.{rules}
 use Rattle.notes.proofs.rows.held_timestamps.Goals as goal
 

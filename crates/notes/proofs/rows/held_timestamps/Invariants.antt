@@ -1,17 +1,15 @@
 -- `held_timestamps` meets its contract. The loop's invariant: each writer passed has been asked; the measure is the
 -- number of writers left.
 use Prim.Native.Nat.{◌-◌}
-use native.Mathlib.Omega.{arith}
 use lib.ListN.{get_or}
 use Rattle.model.specs.Limits.{writers}
 use Rattle.model.specs.State.{ready}
 use Rattle.model.specs.Notes.{held_by}
-use Rattle.common.proofs.Loops.{SetUpto, set_none, set_next, set_end}
-use borrow.Author.Rules.{rules}
+use Rattle.common.proofs.Loops.{SetUpto}
 use Rattle.notes.proofs.rows.held_timestamps.Given as goal
 
 abbrev pub invariant-loop-u : goal.invariant-loop-u
-invariant-loop-u l = SetUpto 0 (λ j. held_by (get_or l.xs j ready)) writers l.held l.u
+invariant-loop-u l = SetUpto 0 (λ j. held_by (get_or l.writers j ready)) writers l.held l.u
 
 abbrev pub decreases-loop-u : goal.decreases-loop-u
 decreases-loop-u l = writers - l.u

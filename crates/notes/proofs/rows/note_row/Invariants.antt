@@ -1,10 +1,8 @@
 -- `note_row` meets its contract. The loop's invariant is `RowSet`; the measure is the number of places left.
 use Prim.Native.Nat.{◌-◌}
-use native.Mathlib.Omega.{arith}
 use lib.ListN.{get_or}
 use Rattle.model.specs.Limits.{writers}
-use Rattle.notes.proofs.RowLoops.{RowSet, row_starts, row_goes_on, row_ends}
-use borrow.Author.Rules.{rules}
+use Rattle.notes.proofs.RowLoops.{RowSet}
 use Rattle.notes.proofs.rows.note_row.Given as goal
 
 abbrev pub invariant-loop-slot : goal.invariant-loop-slot

@@ -2,11 +2,9 @@
 -- of rows left.
 use Prim.Native.Nat.{◌-◌}
 use mathlib.Core.Bool.{false}
-use native.Mathlib.Omega.{arith}
 use Rattle.model.specs.Limits.{keys}
 use Rattle.model.specs.Rules.{copied}
-use Rattle.slices.proofs.Rows.{RowsCopied, all_copied, clear_row}
-use borrow.Author.Rules.{rules}
+use Rattle.slices.proofs.Rows.{RowsCopied}
 use Rattle.slices.proofs.copies.clear_present.Given as goal
 
 abbrev pub invariant-loop-k : goal.invariant-loop-k

@@ -1,11 +1,9 @@
 -- `copy_values` meets its contract. The loop's invariant: the first k rows are copied. The measure is the number of
 -- rows left.
 use Prim.Native.Nat.{◌-◌}
-use native.Mathlib.Omega.{arith}
 use Rattle.model.specs.Limits.{keys}
 use Rattle.model.specs.Rules.{copied}
-use Rattle.slices.proofs.Rows.{RowsCopied, all_copied, copy_row}
-use borrow.Author.Rules.{rules}
+use Rattle.slices.proofs.Rows.{RowsCopied}
 use Rattle.slices.proofs.copies.copy_values.Given as goal
 
 abbrev pub invariant-loop-k : goal.invariant-loop-k

@@ -1,6 +1,5 @@
 -- `drop_slice` meets its contract: a test that fails leaves the rows, and past all of them they are cleared.
 use Rattle.common.proofs.Tests.{tests}
-use borrow.Author.Rules.{rules}
 use Rattle.slices.proofs.copies.drop_slice.Goals as goal
 
 pub returns-then-group : goal.returns-then-group

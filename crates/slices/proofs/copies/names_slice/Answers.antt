@@ -1,7 +1,6 @@
 -- `names_slice` meets its contract: each branch gives the test that it stands for.
 use mathlib.Core.Bool.{and-true}
 use Rattle.common.proofs.Tests.{tests}
-use borrow.Author.Rules.{rules}
 use Rattle.slices.proofs.copies.names_slice.Goals as goal
 
 pub returns-then-x : goal.returns-then-x

@@ -1,6 +1,5 @@
 -- `slice_values` meets its contract, by those of its callees.
 use Rattle.model.specs.Rules.{sliced}
-use borrow.Author.Rules.{rules}
 use Rattle.slices.proofs.copies.slice_values.Goals as goal
 
 pub returns-then-base-eq0 : goal.returns-then-base-eq0

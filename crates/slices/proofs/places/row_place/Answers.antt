@@ -1,6 +1,5 @@
 -- `row_place` meets its contract: a test that fails gives the end of the rows.
 use Rattle.common.proofs.Tests.{tests}
-use borrow.Author.Rules.{rules}
 use Rattle.slices.proofs.places.row_place.Goals as goal
 
 pub returns-then-group-ge-GROUPS : goal.returns-then-group-ge-GROUPS
