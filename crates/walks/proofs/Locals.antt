@@ -5,7 +5,7 @@
 use mathlib.Core.List.{List, [], ◌∷◌, ◌++◌}
 use mathlib.Core.Option.{Option, none, some}
 use Prim.Native.Nat.{ℕ}
-use seplogic.Ra.TreeShare.{full_share}
+use base.Fraction.{full_share}
 use mir.Syntax.{Ty, Local, local, Fn}
 use base.Fml.{fsep, froom, fdies}
 use base.Logic.{sep, snd∗, emp∗, comm∗, mono_r}

@@ -8,6 +8,8 @@ use mir.Val.{WT, has_ty}
 use types.Logic.{Logic}
 use denote.Laws.{Tells, Copy, Lawful, Makes}
 use denote.Plain.{uint_Lawful, uint_Makes, uint_copy}
+use denote.ArrayMemory.{Single}
+use denote.Copied.{Copied, uint_Copied, Array-Copied}
 use denote.Array.{Array, array_val, Array-Tells, Array-Lawful, Array-Makes, array_copy}
 use denote.Enum.Declared as enum
 use denote.Enum.Enum as enum-of
@@ -23,10 +25,11 @@ pub record Plain {M : Type 1} {𝓤 : Ura M} (𝓛 : Logic 𝓤) (R : RattleType
   pub lawful : Lawful 𝓛 R
   pub makes : Makes 𝓛 R (Is R)
   pub copies : Copy 𝓛 R
+  pub copied : Copied 𝓛 R
 
 module _ {M : Type 1} {𝓤 : Ura M} (𝓛 : Logic 𝓤) where
   abbrev pub of_word : Plain 𝓛 usize
-  of_word = record { val = vint w64; tells = uint_Tells w64; lawful = uint_Lawful 𝓛 w64; makes = uint_Makes 𝓛 w64; copies = uint_copy 𝓛 w64 }
+  of_word = record { val = vint w64; tells = uint_Tells w64; lawful = uint_Lawful 𝓛 w64; makes = uint_Makes 𝓛 w64; copies = uint_copy 𝓛 w64; copied = uint_Copied 𝓛 w64 }
 
   abbrev pub of_struct : (T : struct.Declared) → struct_laws.Laws T → struct-of.Plains (struct.fields T) → struct_laws.Copyables T.parts
       → Plain 𝓛 (struct.row T)
@@ -36,6 +39,7 @@ module _ {M : Type 1} {𝓤 : Ura M} (𝓛 : Logic 𝓤) where
     lawful = struct_laws.lawful T L 𝓛;
     makes = struct_laws.makes T pl 𝓛;
     copies = struct_laws.copy T cs 𝓛;
+    copied = struct_laws.copied T cs 𝓛;
   }
 
   abbrev pub of_enum : (T : enum.Declared) → enum_laws.Laws T → enum-of.Few (enum.shape T) → enum-of.Plainss (enum.variants T)
@@ -46,16 +50,18 @@ module _ {M : Type 1} {𝓤 : Ura M} (𝓛 : Logic 𝓤) where
     lawful = enum_laws.lawful T L 𝓛 few;
     makes = enum_laws.makes T pl 𝓛;
     copies = enum_laws.copy T cs 𝓛;
+    copied = enum_laws.copied T cs 𝓛;
   }
 
-  abbrev pub of_array : {R : RattleType} → Plain 𝓛 R → (n : ℕ) → Plain 𝓛 (Array R n)
-  of_array {R} P n = record {
+  abbrev pub of_array : {R : RattleType} → Plain 𝓛 R → Single R.mir → (n : ℕ) → Plain 𝓛 (Array R n)
+  of_array {R} P single n = record {
     val = λ xs. array_val (map P.val xs);
     tells = Array-Tells R (λ y. P.val y ∷ []) P.tells n;
     lawful = Array-Lawful 𝓛 R
         P.lawful n;
     makes = Array-Makes 𝓛 R P.makes n;
     copies = array_copy 𝓛 R P.copies n;
+    copied = Array-Copied 𝓛 R P.copied single n;
   }
 
 -- a number that fits is a value of its type

@@ -1,8 +1,8 @@
 -- Statements on locals, each by the entry of the local in the context.
---     local-holds, local-empty    a local that holds a value, or none
---     get, get-field              it is read, or a field of the struct in it
+--     local_holds, local_empty    a local that holds a value, or none
+--     get, get_field              it is read, or a field of the struct in it
 --     sets, sets_last             it is set, before other statements, and as the last one of a turn
---     lands-in                    it is set to the result of a call
+--     lands_in                    it is set to the result of a call
 use mathlib.Core.List.{List, [], ◌∷◌}
 use mathlib.Core.Option.{some}
 use mathlib.Core.Path.{◌≡◌, refl, sym, ap, subst, ◌∙◌}
