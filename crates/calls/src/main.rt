@@ -6,11 +6,16 @@ mod limits;
 mod reads;
 mod runs;
 
-fn main() {
-    limits::limits();
-    reads::reads();
-    reads::instants();
-    reads::room();
-    horizon::horizon();
-    runs::no_place();
+use std::io;
+use std::io::{BufWriter, Write};
+
+fn main(rt: HostRuntime) -> io::Result<()> {
+    let mut out = BufWriter::new(rt.alloc(), io::writer(&rt))?;
+    limits::limits(&mut out)?;
+    reads::reads(&mut out)?;
+    reads::instants(&mut out)?;
+    reads::room(&mut out)?;
+    horizon::horizon(&mut out)?;
+    runs::no_place(&mut out)?;
+    out.flush()
 }

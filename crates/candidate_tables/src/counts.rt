@@ -2,24 +2,26 @@
 use crate::looking::writing;
 use model::Table;
 use scripts::choose;
+use std::io;
+use std::io::Write;
 
 // Writer 3 with a count.
-fn at_count(t: Table, count: u8) {
+fn at_count(out: &mut impl Write, t: Table, count: u8) -> io::Result<()> {
     let mut x = t;
     x.counts[3] = count;
-    report::marked(b"count ", count as u64);
-    choose(x, b": ", 3);
+    report::marked(out, b"count ", count as u64)?;
+    choose(out, x, b": ", 3)
 }
 
-fn at_counts(label: &[u8], t: Table) {
-    report::text(b"-- ");
-    report::text(label);
-    report::text(b"\n");
-    at_count(t, 0);
-    at_count(t, 1);
-    at_count(t, 2);
-    at_count(t, 127);
-    at_count(t, 128);
+fn at_counts(out: &mut impl Write, label: &[u8], t: Table) -> io::Result<()> {
+    report::text(out, b"-- ")?;
+    report::text(out, label)?;
+    report::text(out, b"\n")?;
+    at_count(out, t, 0)?;
+    at_count(out, t, 1)?;
+    at_count(out, t, 2)?;
+    at_count(out, t, 127)?;
+    at_count(out, t, 128)
 }
 
 // Places of the five completed instants.
@@ -43,14 +45,15 @@ fn not_completed() -> Table {
     t
 }
 
-pub fn places_and_counts() {
-    report::title(b"Places and counts that no steps give");
-    at_counts(b"in order", with_places(1, 2, 3, 4, 5));
-    at_counts(b"against the order", with_places(5, 4, 3, 2, 1));
-    at_counts(b"equal", with_places(2, 2, 2, 2, 2));
+pub fn places_and_counts(out: &mut impl Write) -> io::Result<()> {
+    report::title(out, b"Places and counts that no steps give")?;
+    at_counts(out, b"in order", with_places(1, 2, 3, 4, 5))?;
+    at_counts(out, b"against the order", with_places(5, 4, 3, 2, 1))?;
+    at_counts(out, b"equal", with_places(2, 2, 2, 2, 2))?;
     at_counts(
+        out,
         b"0, and of instants that are not completed",
         not_completed(),
-    );
-    at_counts(b"the largest", with_places(128, 0, 0, 0, 127));
+    )?;
+    at_counts(out, b"the largest", with_places(128, 0, 0, 0, 127))
 }

@@ -4,6 +4,8 @@ use crate::stepped::stepped;
 use model::instants::{COMPLETED, INFLIGHT};
 use model::limits::{NOTED, TIMESTAMPS, WRITERS};
 use model::{Mode, Table};
+use std::io;
+use std::io::Write;
 
 // Writer 3 is at its commit step; it has a count and a noted timestamp, and two timestamps have places.
 fn at_commit(mode: Mode, ts: u8) -> Table {
@@ -16,35 +18,37 @@ fn at_commit(mode: Mode, ts: u8) -> Table {
 }
 
 // Its instant, which has a place already, is inflight, requested, completed or not there.
-fn commits(mode: Mode) {
+fn commits(out: &mut impl Write, mode: Mode) -> io::Result<()> {
     let log = b"\x03\x08";
     let mut t = at_commit(mode, 3);
     t.places[2] = 77;
-    stepped(t, b"its instant is inflight:", log);
+    stepped(out, t, b"its instant is inflight:", log)?;
     t = at_commit(mode, 4);
     t.places[3] = 77;
-    stepped(t, b"it is requested:", log);
+    stepped(out, t, b"it is requested:", log)?;
     t = at_commit(mode, 5);
     t.places[4] = 77;
-    stepped(t, b"it is completed:", log);
+    stepped(out, t, b"it is completed:", log)?;
     t = at_commit(mode, 7);
     t.places[6] = 77;
-    stepped(t, b"there is none:", log);
+    stepped(out, t, b"there is none:", log)?;
+    Ok(())
 }
 
 // All 128 timestamps are completed, or all but its own.
-fn last_commits(mode: Mode) {
+fn last_commits(out: &mut impl Write, mode: Mode) -> io::Result<()> {
     let log = b"\x03\x08";
     let mut timeline = [COMPLETED + 2; TIMESTAMPS];
     let mut t = at_commit(mode, 1);
     t.timeline = timeline;
     t.places[0] = 77;
-    stepped(t, b"all are completed:", log);
+    stepped(out, t, b"all are completed:", log)?;
     timeline[TIMESTAMPS - 1] = INFLIGHT + 2;
     t = at_commit(mode, 128);
     t.timeline = timeline;
     t.places[127] = 77;
-    stepped(t, b"all but the last are completed:", log);
+    stepped(out, t, b"all but the last are completed:", log)?;
+    Ok(())
 }
 
 // Every writer has a count and a row of noted timestamps; writer 3 is at its look up.
@@ -61,31 +65,34 @@ fn all_noted(mode: Mode) -> Table {
 }
 
 // The numbers of others stay, those of writer 3 until it ends. `walk` leads to its commit, `going_on` to the step before.
-fn others(mode: Mode, walk: &[u8], going_on: &[u8]) {
+fn others(out: &mut impl Write, mode: Mode, walk: &[u8], going_on: &[u8]) -> io::Result<()> {
     let t = all_noted(mode);
-    stepped(t, b"it gives up:", b"\x03\x09");
-    stepped(t, b"it commits:", walk);
-    stepped(t, b"it goes on:", going_on);
-    stepped(t, b"refused:", b"\x03\x02\x01\x09\x08");
+    stepped(out, t, b"it gives up:", b"\x03\x09")?;
+    stepped(out, t, b"it commits:", walk)?;
+    stepped(out, t, b"it goes on:", going_on)?;
+    stepped(out, t, b"refused:", b"\x03\x02\x01\x09\x08")?;
+    Ok(())
 }
 
-pub fn of_each_mode() {
-    report::title(b"Commits: optimistic");
-    commits(Mode::Optimistic);
-    last_commits(Mode::Optimistic);
-    report::title(b"Numbers of others: optimistic");
+pub fn of_each_mode(out: &mut impl Write) -> io::Result<()> {
+    report::title(out, b"Commits: optimistic")?;
+    commits(out, Mode::Optimistic)?;
+    last_commits(out, Mode::Optimistic)?;
+    report::title(out, b"Numbers of others: optimistic")?;
     others(
+        out,
         Mode::Optimistic,
         b"\x03\x03\x03\x04\x03\x05\x03\x06\x03\x07\x03\x08",
         b"\x03\x03\x03\x04\x03\x05\x03\x06\x03\x07",
-    );
-    report::title(b"Commits: pessimistic");
-    commits(Mode::Pessimistic);
-    last_commits(Mode::Pessimistic);
-    report::title(b"Numbers of others: pessimistic");
+    )?;
+    report::title(out, b"Commits: pessimistic")?;
+    commits(out, Mode::Pessimistic)?;
+    last_commits(out, Mode::Pessimistic)?;
+    report::title(out, b"Numbers of others: pessimistic")?;
     others(
+        out,
         Mode::Pessimistic,
         b"\x03\x03\x03\x04\x03\x05\x03\x06\x03\x08",
         b"\x03\x03\x03\x04\x03\x05\x03\x06",
-    );
+    )
 }

@@ -9,13 +9,18 @@ mod starts;
 mod stepped;
 mod timelines;
 
-fn main() {
-    noted::noted();
-    counts::places_and_counts();
-    timelines::ends_of_the_timeline();
-    timelines::at_each_phase();
-    starts::beside_a_ready_writer();
-    starts::all_but_one();
-    starts::two_holders();
-    ends::of_each_mode();
+use std::io;
+use std::io::{BufWriter, Write};
+
+fn main(rt: HostRuntime) -> io::Result<()> {
+    let mut out = BufWriter::new(rt.alloc(), io::writer(&rt))?;
+    noted::noted(&mut out)?;
+    counts::places_and_counts(&mut out)?;
+    timelines::ends_of_the_timeline(&mut out)?;
+    timelines::at_each_phase(&mut out)?;
+    starts::beside_a_ready_writer(&mut out)?;
+    starts::all_but_one(&mut out)?;
+    starts::two_holders(&mut out)?;
+    ends::of_each_mode(&mut out)?;
+    out.flush()
 }

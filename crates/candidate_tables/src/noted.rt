@@ -2,6 +2,8 @@
 use crate::looking::writing;
 use model::Table;
 use scripts::choose;
+use std::io;
+use std::io::Write;
 
 fn not_completed() -> Table {
     let mut t = writing();
@@ -55,13 +57,13 @@ fn of_others() -> Table {
     t
 }
 
-pub fn noted() {
-    report::title(b"Noted timestamps that no steps give");
-    choose(writing(), b"none: ", 3);
-    choose(not_completed(), b"not completed: ", 3);
-    choose(twice(), b"twice: ", 3);
-    choose(its_own(), b"its own: ", 3);
-    choose(above_its_own(), b"above its own: ", 3);
-    choose(all_of_these(), b"all of these: ", 3);
-    choose(of_others(), b"of other writers: ", 3);
+pub fn noted(out: &mut impl Write) -> io::Result<()> {
+    report::title(out, b"Noted timestamps that no steps give")?;
+    choose(out, writing(), b"none: ", 3)?;
+    choose(out, not_completed(), b"not completed: ", 3)?;
+    choose(out, twice(), b"twice: ", 3)?;
+    choose(out, its_own(), b"its own: ", 3)?;
+    choose(out, above_its_own(), b"above its own: ", 3)?;
+    choose(out, all_of_these(), b"all of these: ", 3)?;
+    choose(out, of_others(), b"of other writers: ", 3)
 }

@@ -5,6 +5,8 @@ use model::limits::TIMESTAMPS;
 use model::{Mode, Table};
 use scripts::choose;
 use set_by_hand::{bare, putting};
+use std::io;
+use std::io::Write;
 
 // Timestamps 1 and 128 are completed; writer 3 has 127. The last place of its row is `noted`.
 fn both_ends(first: u8, last: u8, noted: u8) -> Table {
@@ -28,42 +30,42 @@ fn all_completed() -> Table {
 }
 
 // All lists that are as long as can be.
-fn all() {
+fn all(out: &mut impl Write) -> io::Result<()> {
     let firsts = [1u8; TIMESTAMPS];
     let mut t = all_completed();
-    choose(t, b"all but its own: ", 3);
+    choose(out, t, b"all but its own: ", 3)?;
     t.noted[48] = 1;
     t.places = firsts;
-    choose(t, b"all: ", 3);
+    choose(out, t, b"all: ", 3)?;
     t.counts[3] = 1;
-    choose(t, b"all, and none: ", 3);
+    choose(out, t, b"all, and none: ", 3)
 }
 
-pub fn ends_of_the_timeline() {
-    report::title(b"The ends of the timeline");
-    choose(both_ends(128, 1, 0), b"not noted: ", 3);
-    choose(both_ends(0, 0, 1), b"noted: ", 3);
-    choose(both_ends(1, 0, 128), b"noted above its own: ", 3);
-    all();
+pub fn ends_of_the_timeline(out: &mut impl Write) -> io::Result<()> {
+    report::title(out, b"The ends of the timeline")?;
+    choose(out, both_ends(128, 1, 0), b"not noted: ", 3)?;
+    choose(out, both_ends(0, 0, 1), b"noted: ", 3)?;
+    choose(out, both_ends(1, 0, 128), b"noted above its own: ", 3)?;
+    all(out)
 }
 
 // A writer with a timestamp, at a phase, and the first writer that there is not.
-fn at_phase(phase: u8) {
+fn at_phase(out: &mut impl Write, phase: u8) -> io::Result<()> {
     let mut t = looking(Mode::Optimistic, phase, 5, 9);
     t.places[0] = 1;
     t.noted[48] = 2;
-    report::marked(b"phase ", phase as u64);
-    choose(t, b": ", 3);
-    choose(t, b"past the last writer: ", 16);
+    report::marked(out, b"phase ", phase as u64)?;
+    choose(out, t, b": ", 3)?;
+    choose(out, t, b"past the last writer: ", 16)
 }
 
-pub fn at_each_phase() {
-    report::title(b"At each phase");
-    at_phase(0);
-    at_phase(1);
-    at_phase(2);
-    at_phase(3);
-    at_phase(4);
-    at_phase(5);
-    at_phase(6);
+pub fn at_each_phase(out: &mut impl Write) -> io::Result<()> {
+    report::title(out, b"At each phase")?;
+    at_phase(out, 0)?;
+    at_phase(out, 1)?;
+    at_phase(out, 2)?;
+    at_phase(out, 3)?;
+    at_phase(out, 4)?;
+    at_phase(out, 5)?;
+    at_phase(out, 6)
 }

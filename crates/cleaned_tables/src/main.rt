@@ -4,12 +4,17 @@
 mod bases;
 mod rows;
 
-fn main() {
-    rows::beside();
-    rows::first_and_last();
-    rows::not_stored();
-    rows::horizon_set();
-    bases::of_another_group();
-    bases::at_each_base();
-    bases::of_each_writer();
+use std::io;
+use std::io::{BufWriter, Write};
+
+fn main(rt: HostRuntime) -> io::Result<()> {
+    let mut out = BufWriter::new(rt.alloc(), io::writer(&rt))?;
+    rows::beside(&mut out)?;
+    rows::first_and_last(&mut out)?;
+    rows::not_stored(&mut out)?;
+    rows::horizon_set(&mut out)?;
+    bases::of_another_group(&mut out)?;
+    bases::at_each_base(&mut out)?;
+    bases::of_each_writer(&mut out)?;
+    out.flush()
 }

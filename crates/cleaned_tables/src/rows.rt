@@ -2,10 +2,12 @@
 use model::Mode;
 use model::instants::{COMPLETED, INFLIGHT};
 use set_by_hand::{bare, clean_story, putting};
+use std::io;
+use std::io::Write;
 
 // Of timestamp 2, completed in file group 3, every group from 2 to 4 has a slice: those of groups 2 and 4, whose rows stand right beside, are not
 // completed. The groups' other slices and the one before it in group 3 have rows too.
-pub fn beside() {
+pub fn beside(out: &mut impl Write) -> io::Result<()> {
     let rows = b"\
         \x03\x01\x05\x0a\x07\x01\x1f\x0b\x02\x02\x00\x14\x02\x02\x1f\x15\
         \x03\x02\x00\x16\x03\x02\x0f\x17\x03\x02\x1f\x18\x04\x02\x00\x19\
@@ -16,6 +18,7 @@ pub fn beside() {
     t.timeline[2] = COMPLETED + 3;
     t.timeline[3] = INFLIGHT + 3;
     clean_story(
+        out,
         b"A dropped slice and the rows beside it",
         t,
         rows,
@@ -23,11 +26,11 @@ pub fn beside() {
         b"as it is:;",
         2,
         5,
-    );
+    )
 }
 
 // The first slice of all and the last but one are dropped.
-pub fn first_and_last() {
+pub fn first_and_last(out: &mut impl Write) -> io::Result<()> {
     let rows = b"\
         \x00\x01\x00\x0a\x00\x01\x1f\x0b\x00\x02\x00\x0c\x07\x7f\x00\x0d\
         \x07\x7f\x1f\x0e\x07\x80\x00\x0f\x07\x80\x1f\x10";
@@ -37,6 +40,7 @@ pub fn first_and_last() {
     t.timeline[126] = COMPLETED + 7;
     t.timeline[127] = COMPLETED + 7;
     clean_story(
+        out,
         b"The first slice and the last",
         t,
         rows,
@@ -44,11 +48,11 @@ pub fn first_and_last() {
         b"as it is:;",
         127,
         129,
-    );
+    )
 }
 
 // Timestamp 2 is completed and has no slice: it is the newest of file group 3 all the same. It is the base of writer 0.
-pub fn not_stored() {
+pub fn not_stored(out: &mut impl Write) -> io::Result<()> {
     let script = b"as it is:;writer 0 commits:\x00\x05\x00\x06\x00\x07\x00\x08;";
     let mut t = bare(Mode::Optimistic, 3);
     t.timeline[0] = COMPLETED + 3;
@@ -56,6 +60,7 @@ pub fn not_stored() {
     t.timeline[2] = INFLIGHT + 3;
     t.writers[0] = putting(3, 2, 20, 3, 3, 2);
     clean_story(
+        out,
         b"A completed instant without a slice",
         t,
         b"\x03\x01\x01\x0a",
@@ -63,11 +68,11 @@ pub fn not_stored() {
         script,
         2,
         3,
-    );
+    )
 }
 
 // No clean has been through the slices below the horizon.
-pub fn horizon_set() {
+pub fn horizon_set(out: &mut impl Write) -> io::Result<()> {
     let mut t = bare(Mode::Optimistic, 4);
     t.horizon = 3;
     t.timeline[0] = COMPLETED + 3;
@@ -75,6 +80,7 @@ pub fn horizon_set() {
     t.timeline[2] = COMPLETED + 3;
     t.timeline[3] = COMPLETED + 3;
     clean_story(
+        out,
         b"A horizon that no clean has set",
         t,
         b"\x03\x01\x01\x0a\x03\x02\x01\x0b\x03\x03\x01\x0c\x03\x04\x01\x0d",
@@ -82,5 +88,5 @@ pub fn horizon_set() {
         b"as it is:;key 1 is put:\x00\x01\x01\x0e\x03\x00\x03\x00\x04\x00\x05\x00\x06\x00\x07\x00\x08;",
         1,
         5,
-    );
+    )
 }

@@ -8,14 +8,19 @@ mod of_the_table;
 mod of_what_is_noted;
 mod tried;
 
-fn main() {
-    of_the_table::numbers();
-    of_the_table::horizon();
-    of_the_table::locks();
-    of_a_writer::numbers();
-    of_a_writer::ready();
-    of_what_is_noted::numbers();
-    of_what_is_noted::with_one_left();
-    of_what_is_noted::pessimistic();
-    back::back_in_range();
+use std::io;
+use std::io::{BufWriter, Write};
+
+fn main(rt: HostRuntime) -> io::Result<()> {
+    let mut out = BufWriter::new(rt.alloc(), io::writer(&rt))?;
+    of_the_table::numbers(&mut out)?;
+    of_the_table::horizon(&mut out)?;
+    of_the_table::locks(&mut out)?;
+    of_a_writer::numbers(&mut out)?;
+    of_a_writer::ready(&mut out)?;
+    of_what_is_noted::numbers(&mut out)?;
+    of_what_is_noted::with_one_left(&mut out)?;
+    of_what_is_noted::pessimistic(&mut out)?;
+    back::back_in_range(&mut out)?;
+    out.flush()
 }

@@ -5,224 +5,240 @@ mod choices;
 
 pub use choices::{chosen, noted};
 use common::Word;
-use libc::STDOUT_FILENO;
 use model::{Found, InstantState, Scanned, Value};
+use std::io;
+use std::io::Write;
 
-pub fn text(s: &[u8]) {
-    io::write_all(STDOUT_FILENO, s);
+pub fn text(out: &mut impl Write, s: &[u8]) -> io::Result<()> {
+    out.write_all(s)
 }
 
 // A number, behind a mark.
-pub fn marked(mark: &[u8], n: u64) {
-    text(mark);
-    io::print_decimal(STDOUT_FILENO, n);
+pub fn marked(out: &mut impl Write, mark: &[u8], n: u64) -> io::Result<()> {
+    text(out, mark)?;
+    write!(out, "{n}")
 }
 
 // A number, behind a space.
-pub fn number(n: u64) {
-    marked(b" ", n);
+pub fn number(out: &mut impl Write, n: u64) -> io::Result<()> {
+    marked(out, b" ", n)
 }
 
-fn byte(n: u8) {
-    number(n as u64);
+fn byte(out: &mut impl Write, n: u8) -> io::Result<()> {
+    number(out, n as u64)
 }
 
-pub fn title(s: &[u8]) {
-    text(b"== ");
-    text(s);
-    text(b"\n");
+pub fn title(out: &mut impl Write, s: &[u8]) -> io::Result<()> {
+    text(out, b"== ")?;
+    text(out, s)?;
+    text(out, b"\n")
 }
 
 // A word and a number, the head of a line.
-fn head(word: &[u8], n: u64) {
-    text(word);
-    number(n);
-    text(b":");
+fn head(out: &mut impl Write, word: &[u8], n: u64) -> io::Result<()> {
+    text(out, word)?;
+    number(out, n)?;
+    text(out, b":")
 }
 
 // The first bytes of a buffer.
-fn bytes(buffer: &[u8], count: usize) {
+fn bytes(out: &mut impl Write, buffer: &[u8], count: usize) -> io::Result<()> {
     let mut i: usize = 0;
     while i < buffer.len() && i < count {
-        byte(buffer[i]);
+        byte(out, buffer[i])?;
         i += 1;
     }
+    Ok(())
 }
 
 // The first answers of a buffer, behind a label.
-pub fn answers(label: &[u8], buffer: &[u8], count: usize) {
-    text(label);
-    bytes(buffer, count);
-    text(b"\n");
+pub fn answers(out: &mut impl Write, label: &[u8], buffer: &[u8], count: usize) -> io::Result<()> {
+    text(out, label)?;
+    bytes(out, buffer, count)?;
+    text(out, b"\n")
 }
 
 // A run's stop, within a line.
-fn stopped(stop: u8, offset: usize) {
-    text(b"stop");
-    byte(stop);
-    text(b" at");
-    number(offset as u64);
+fn stopped(out: &mut impl Write, stop: u8, offset: usize) -> io::Result<()> {
+    text(out, b"stop")?;
+    byte(out, stop)?;
+    text(out, b" at")?;
+    number(out, offset as u64)
 }
 
-pub fn stop(stop: u8, offset: usize) {
-    stopped(stop, offset);
-    text(b"\n");
+pub fn stop(out: &mut impl Write, stop: u8, offset: usize) -> io::Result<()> {
+    stopped(out, stop, offset)?;
+    text(out, b"\n")
 }
 
 // The answers and the stop of a run, within a line.
-pub fn ran(buffer: &[u8], count: usize, stop: u8, offset: usize) {
-    text(b"ran:");
-    bytes(buffer, count);
-    text(b"; ");
-    stopped(stop, offset);
+pub fn ran(
+    out: &mut impl Write,
+    buffer: &[u8],
+    count: usize,
+    stop: u8,
+    offset: usize,
+) -> io::Result<()> {
+    text(out, b"ran:")?;
+    bytes(out, buffer, count)?;
+    text(out, b"; ")?;
+    stopped(out, stop, offset)
 }
 
 // A number of a row, at its place in a buffer; a comma goes before each row but the first.
-fn cell(at: usize, n: Value) {
+fn cell(out: &mut impl Write, at: usize, n: Value) -> io::Result<()> {
     if 0 < at && at % 3 == 0 {
-        text(b",");
+        text(out, b",")?;
     }
-    number(n);
+    number(out, n)
 }
 
 // The first rows of a buffer.
-fn rows(buffer: &[Value], count: usize) {
+fn rows(out: &mut impl Write, buffer: &[Value], count: usize) -> io::Result<()> {
     let mut at: usize = 0;
     while at < buffer.len() && at / 3 < count {
-        cell(at, buffer[at]);
+        cell(out, at, buffer[at])?;
         at += 1;
     }
+    Ok(())
 }
 
-fn refusal(answer: u8) {
-    text(b" refused with");
-    byte(answer);
+fn refusal(out: &mut impl Write, answer: u8) -> io::Result<()> {
+    text(out, b" refused with")?;
+    byte(out, answer)
 }
 
 // What a scan at a timestamp gave.
-pub fn listing(at: u64, found: Scanned, buffer: &[Value]) {
-    head(b"at", at);
+pub fn listing(out: &mut impl Write, at: u64, found: Scanned, buffer: &[Value]) -> io::Result<()> {
+    head(out, b"at", at)?;
     if found.answer != 0 {
-        refusal(found.answer);
+        refusal(out, found.answer)?;
     } else if found.count == 0 {
-        text(b" no rows");
+        text(out, b" no rows")?;
     } else {
-        rows(buffer, found.count);
+        rows(out, buffer, found.count)?;
     }
-    text(b"\n");
+    text(out, b"\n")
 }
 
 // The same in short, within a line.
-pub fn short_listing(found: Scanned, buffer: &[Value]) {
+pub fn short_listing(out: &mut impl Write, found: Scanned, buffer: &[Value]) -> io::Result<()> {
     if found.answer != 0 {
-        short_refusal(found.answer);
+        short_refusal(out, found.answer)
     } else {
-        rows(buffer, found.count);
+        rows(out, buffer, found.count)
     }
 }
 
 // What a clean at a timestamp gave.
-pub fn cleaned(at: u64, answer: u8) {
-    head(b"clean at", at);
-    byte(answer);
-    text(b"\n");
+pub fn cleaned(out: &mut impl Write, at: u64, answer: u8) -> io::Result<()> {
+    head(out, b"clean at", at)?;
+    byte(out, answer)?;
+    text(out, b"\n")
 }
 
 // What a scan into a buffer gave, and the whole buffer.
-pub fn scanned(found: Scanned, buffer: &[Value]) {
-    head(b"room for", buffer.len() as u64);
-    text(b" answer");
-    byte(found.answer);
-    text(b",");
-    number(found.count as u64);
-    text(b" rows:");
-    rows(buffer, buffer.len());
-    text(b"\n");
+pub fn scanned(out: &mut impl Write, found: Scanned, buffer: &[Value]) -> io::Result<()> {
+    head(out, b"room for", buffer.len() as u64)?;
+    text(out, b" answer")?;
+    byte(out, found.answer)?;
+    text(out, b",")?;
+    number(out, found.count as u64)?;
+    text(out, b" rows:")?;
+    rows(out, buffer, buffer.len())?;
+    text(out, b"\n")
 }
 
-fn hex(n: u8) {
-    text(b" ");
-    io::print_hex(STDOUT_FILENO, n as u64, 2);
+fn hex(out: &mut impl Write, n: u8) -> io::Result<()> {
+    text(out, b" ")?;
+    write!(out, "{n:02x}")
 }
 
-fn hex_bytes(buffer: &[u8]) {
+fn hex_bytes(out: &mut impl Write, buffer: &[u8]) -> io::Result<()> {
     for i in 0..buffer.len() {
-        hex(buffer[i]);
+        hex(out, buffer[i])?;
     }
+    Ok(())
 }
 
 // What a writer of bytes gave, and its whole buffer.
-pub fn written(label: &[u8], answer: u8, count: usize, buffer: &[u8]) {
-    text(label);
-    text(b": answer");
-    byte(answer);
-    text(b",");
-    number(count as u64);
-    text(b" bytes:");
-    hex_bytes(buffer);
-    text(b"\n");
+pub fn written(
+    out: &mut impl Write,
+    label: &[u8],
+    answer: u8,
+    count: usize,
+    buffer: &[u8],
+) -> io::Result<()> {
+    text(out, label)?;
+    text(out, b": answer")?;
+    byte(out, answer)?;
+    text(out, b",")?;
+    number(out, count as u64)?;
+    text(out, b" bytes:")?;
+    hex_bytes(out, buffer)?;
+    text(out, b"\n")
 }
 
 // A word and a file group.
-fn in_group(word: &[u8], group: u8) {
-    text(word);
-    text(b" in group");
-    byte(group);
+fn in_group(out: &mut impl Write, word: &[u8], group: u8) -> io::Result<()> {
+    text(out, word)?;
+    text(out, b" in group")?;
+    byte(out, group)
 }
 
 // What a point read of a key at a timestamp gave.
-pub fn found(key: Word, at: u64, found: Found) {
-    text(b"key");
-    number(key);
-    head(b" at", at);
+pub fn found(out: &mut impl Write, key: Word, at: u64, found: Found) -> io::Result<()> {
+    text(out, b"key")?;
+    number(out, key)?;
+    head(out, b" at", at)?;
     match found {
-        Found::Refused(answer) => refusal(answer),
-        Found::Absent => text(b" absent"),
+        Found::Refused(answer) => refusal(out, answer)?,
+        Found::Absent => text(out, b" absent")?,
         Found::Present { value, group } => {
-            number(value);
-            in_group(b"", group);
+            number(out, value)?;
+            in_group(out, b"", group)?;
         }
     }
-    text(b"\n");
+    text(out, b"\n")
 }
 
 // The state of the instant of a timestamp.
-pub fn instant(at: u64, state: InstantState) {
-    head(b"instant", at);
+pub fn instant(out: &mut impl Write, at: u64, state: InstantState) -> io::Result<()> {
+    head(out, b"instant", at)?;
     match state {
-        InstantState::Refused(answer) => refusal(answer),
-        InstantState::None => text(b" none"),
-        InstantState::Requested => text(b" requested"),
-        InstantState::Inflight(group) => in_group(b" inflight", group),
-        InstantState::Completed(group) => in_group(b" completed", group),
+        InstantState::Refused(answer) => refusal(out, answer)?,
+        InstantState::None => text(out, b" none")?,
+        InstantState::Requested => text(out, b" requested")?,
+        InstantState::Inflight(group) => in_group(out, b" inflight", group)?,
+        InstantState::Completed(group) => in_group(out, b" completed", group)?,
     }
-    text(b"\n");
+    text(out, b"\n")
 }
 
 // A refusal in short.
-fn short_refusal(answer: u8) {
-    marked(b" !", answer as u64);
+fn short_refusal(out: &mut impl Write, answer: u8) -> io::Result<()> {
+    marked(out, b" !", answer as u64)
 }
 
 // What a point read gave, in short: a value and its file group, a point for absent, or a refusal.
-pub fn short_found(found: Found) {
+pub fn short_found(out: &mut impl Write, found: Found) -> io::Result<()> {
     match found {
-        Found::Refused(answer) => short_refusal(answer),
-        Found::Absent => text(b" ."),
+        Found::Refused(answer) => short_refusal(out, answer),
+        Found::Absent => text(out, b" ."),
         Found::Present { value, group } => {
-            number(value);
-            marked(b"/", group as u64);
+            number(out, value)?;
+            marked(out, b"/", group as u64)
         }
     }
 }
 
 // The state of an instant, in short: -, r, or i or c and its file group.
-pub fn short_instant(state: InstantState) {
+pub fn short_instant(out: &mut impl Write, state: InstantState) -> io::Result<()> {
     match state {
-        InstantState::Refused(answer) => short_refusal(answer),
-        InstantState::None => text(b" -"),
-        InstantState::Requested => text(b" r"),
-        InstantState::Inflight(group) => marked(b" i", group as u64),
-        InstantState::Completed(group) => marked(b" c", group as u64),
+        InstantState::Refused(answer) => short_refusal(out, answer),
+        InstantState::None => text(out, b" -"),
+        InstantState::Requested => text(out, b" r"),
+        InstantState::Inflight(group) => marked(out, b" i", group as u64),
+        InstantState::Completed(group) => marked(out, b" c", group as u64),
     }
 }

@@ -1,14 +1,17 @@
 // A script is pieces in a row, each a label, a colon, a log and a semicolon; its logs have neither mark.
-ghost use Rattle.std.specs.Prelude.{◌≡◌, ◌≤◌, length};
+ghost use Rattle.std.specs.Prelude.{◌≡◌, ◌≤◌, length, IfOk};
 ghost use Rattle.model.specs.Calls.{state_before};
 ghost use Rattle.run.specs.Runs.{of_log, run_of};
 ghost use Rattle.run.specs.Calls.{ran};
+ghost use Rattle.run.specs.declared.Ran.{Ran};
 
 use crate::calls::{instant, scan};
 use crate::steps::run_by_steps;
 use model::limits::{ROWS, TIMESTAMPS};
 use model::{Mode, Table, Value};
 use run::Ran;
+use std::io;
+use std::io::Write;
 
 // Places for the answers of a piece: a start and its end for each timestamp.
 const PLACES: usize = 2 * TIMESTAMPS;
@@ -30,8 +33,9 @@ fn run_log(
     run::run_log(t, present, values, log, answers)
 }
 
-// The same, and prints the answers and the stop.
+// The same, and prints the answers and the stop. The run is done also where they could not be printed.
 pub fn run_printed(
+    out: &mut impl Write,
     t: Table,
     present: &mut [bool; ROWS],
     values: &mut [Value; ROWS],
@@ -39,17 +43,19 @@ pub fn run_printed(
     log: &[u8],
     answers: &mut [u8],
     by_steps: bool,
-) -> Ran
-    ensures { ran result present values answers ≡ run_of (of_log log.now) (state_before t present values) answers.old }
+) -> io::Result<Ran>
+    ensures ok { IfOk result (λ r. ran r present values answers ≡ run_of (of_log log.now) (state_before t present values) answers.old) }
+    ensures done { (r : Ran) × (ran r present values answers ≡ run_of (of_log log.now) (state_before t present values) answers.old) }
 {
     let ran = run_log(t, present, values, log, answers, by_steps);
-    report::answers(label, answers, ran.count);
-    report::stop(ran.stop, ran.offset);
-    ran
+    report::answers(out, label, answers, ran.count)?;
+    report::stop(out, ran.stop, ran.offset)?;
+    Ok(ran)
 }
 
 // Runs a piece of a script, and reads the table after it at the timestamps `first` to `last`.
 pub fn piece(
+    out: &mut impl Write,
     t: Table,
     present: &mut [bool; ROWS],
     values: &mut [Value; ROWS],
@@ -58,20 +64,28 @@ pub fn piece(
     first: u64,
     last: u64,
     by_steps: bool,
-) -> Table {
+) -> io::Result<Table> {
     let mut places = [0u8; PLACES];
-    let ran = run_printed(t, present, values, label, log, &mut places, by_steps);
+    let ran = run_printed(out, t, present, values, label, log, &mut places, by_steps)?;
     let after = ran.table;
-    shown(after, present, values, first, last);
-    after
+    shown(out, after, present, values, first, last)?;
+    Ok(after)
 }
 
 // The rows and the instants at the timestamps `first` to `last`.
-fn shown(t: Table, present: &[bool; ROWS], values: &[Value; ROWS], first: u64, last: u64) {
+fn shown(
+    out: &mut impl Write,
+    t: Table,
+    present: &[bool; ROWS],
+    values: &[Value; ROWS],
+    first: u64,
+    last: u64,
+) -> io::Result<()> {
     for at in first..=last {
-        scan(t, present, values, at);
-        instant(t, at);
+        scan(out, t, present, values, at)?;
+        instant(out, t, at)?;
     }
+    Ok(())
 }
 
 // The place behind the next mark, or the end.
@@ -92,6 +106,7 @@ fn behind(script: &[u8], at: usize, mark: u8) -> usize
 
 // Runs each piece of a script on the table that the last one left, and reads the table after each.
 fn pieces(
+    out: &mut impl Write,
     t: Table,
     present: &mut [bool; ROWS],
     values: &mut [Value; ROWS],
@@ -99,7 +114,7 @@ fn pieces(
     first: u64,
     last: u64,
     by_steps: bool,
-) {
+) -> io::Result<()> {
     let mut t = t;
     let mut at: usize = 0;
     while at < script.len() {
@@ -107,10 +122,11 @@ fn pieces(
         let next = behind(script, log, b';');
         // A label without a log ends the script.
         if next == log {
-            return;
+            return Ok(());
         }
         let end = next - 1;
         t = piece(
+            out,
             t,
             present,
             values,
@@ -119,35 +135,44 @@ fn pieces(
             first,
             last,
             by_steps,
-        );
+        )?;
         at = next;
     }
+    Ok(())
 }
 
 // Runs a script on a table, once as logs and once step by step, and reads after each piece the rows and the instants
 // at the timestamps `first` to `last`.
 pub fn play(
+    out: &mut impl Write,
     t: Table,
     present: &[bool; ROWS],
     values: &[Value; ROWS],
     script: &[u8],
     first: u64,
     last: u64,
-) {
+) -> io::Result<()> {
     let mut shown = *present;
     let mut held = *values;
-    pieces(t, &mut shown, &mut held, script, first, last, false);
-    report::text(b"-- step by step\n");
+    pieces(out, t, &mut shown, &mut held, script, first, last, false)?;
+    report::text(out, b"-- step by step\n")?;
     shown = *present;
     held = *values;
-    pieces(t, &mut shown, &mut held, script, first, last, true);
+    pieces(out, t, &mut shown, &mut held, script, first, last, true)
 }
 
 // A script from a fresh table of a mode on.
-pub fn story(mode: Mode, title: &[u8], script: &[u8], first: u64, last: u64) {
+pub fn story(
+    out: &mut impl Write,
+    mode: Mode,
+    title: &[u8],
+    script: &[u8],
+    first: u64,
+    last: u64,
+) -> io::Result<()> {
     let mut present = [false; ROWS];
     let mut values: [Value; ROWS] = [0; ROWS];
     let t = table::fresh(mode, &mut present, &mut values);
-    report::title(title);
-    play(t, &present, &values, script, first, last);
+    report::title(out, title)?;
+    play(out, t, &present, &values, script, first, last)
 }

@@ -5,72 +5,77 @@ use metadata::{Search, instant_of, newest_above, newest_of};
 use model::instants::{COMPLETED, INFLIGHT, NONE, REQUESTED};
 use model::limits::TIMESTAMPS;
 use report::{number, text};
+use std::io;
+use std::io::{BufWriter, Write};
 
 // The last timestamp of all, as the papers have it.
 const LAST: u8 = 128;
 
 // What a search gave: the hit, or that there is none, and how many timestamps it looked at.
-fn print(found: Search) {
+fn print(out: &mut impl Write, found: Search) -> io::Result<()> {
     match found {
         Search::Hit { ts, looked_at } => {
-            text(b" hit");
-            number(ts as u64);
-            text(b", looked at");
-            number(looked_at as u64);
+            text(out, b" hit")?;
+            number(out, ts as u64)?;
+            text(out, b", looked at")?;
+            number(out, looked_at as u64)?;
         }
         Search::NoHit { looked_at } => {
-            text(b" no hit, looked at");
-            number(looked_at as u64);
+            text(out, b" no hit, looked at")?;
+            number(out, looked_at as u64)?;
         }
     }
+    Ok(())
 }
 
 // The search for a file group from a last timestamp down to a base, and the newest of the group up to the last timestamp.
-fn search(timeline: &[u8], group: u8, base: u8, last: u8) {
-    text(b"group");
-    number(group as u64);
-    text(b" from");
-    number(last as u64);
-    text(b" down to");
-    number(base as u64);
-    text(b":");
-    print(newest_above(timeline, group, base, last));
-    text(b"; newest");
-    number(newest_of(timeline, group, last) as u64);
-    text(b"\n");
+fn search(out: &mut impl Write, timeline: &[u8], group: u8, base: u8, last: u8) -> io::Result<()> {
+    text(out, b"group")?;
+    number(out, group as u64)?;
+    text(out, b" from")?;
+    number(out, last as u64)?;
+    text(out, b" down to")?;
+    number(out, base as u64)?;
+    text(out, b":")?;
+    print(out, newest_above(timeline, group, base, last))?;
+    text(out, b"; newest")?;
+    number(out, newest_of(timeline, group, last) as u64)?;
+    text(out, b"\n")
 }
 
 // Every base and last timestamp up to 9.
-fn search_all(timeline: &[u8], group: u8) {
+fn search_all(out: &mut impl Write, timeline: &[u8], group: u8) -> io::Result<()> {
     for i in 0..100 {
-        search(timeline, group, i / 10, i % 10);
+        search(out, timeline, group, i / 10, i % 10)?;
     }
+    Ok(())
 }
 
 // Searches, each three numbers: file group, base and last timestamp.
-fn search_each(timeline: &[u8], numbers: &[u8]) {
+fn search_each(out: &mut impl Write, timeline: &[u8], numbers: &[u8]) -> io::Result<()> {
     let mut i: usize = 0;
     while i < numbers.len() {
         if numbers.len() - i < 3 {
-            return;
+            return Ok(());
         }
-        search(timeline, numbers[i], numbers[i + 1], numbers[i + 2]);
+        search(out, timeline, numbers[i], numbers[i + 1], numbers[i + 2])?;
         i += 3;
     }
+    Ok(())
 }
 
 // The number of an instant.
-fn instant(timeline: &[u8], at: u64) {
-    text(b"instant");
-    number(at);
-    text(b":");
-    number(instant_of(timeline, at) as u64);
-    text(b"\n");
+fn instant(out: &mut impl Write, timeline: &[u8], at: u64) -> io::Result<()> {
+    text(out, b"instant")?;
+    number(out, at)?;
+    text(out, b":")?;
+    number(out, instant_of(timeline, at) as u64)?;
+    text(out, b"\n")
 }
 
 // Of eight instants, 1 and 7 are completed in file group 0, 2, 4 and 6 in group 1, and 5 in group 3. Among the searches are two hits above the
 // base, none, one at the base only, a base equal to the last timestamp, and one above it.
-fn eight_instants() {
+fn eight_instants(out: &mut impl Write) -> io::Result<()> {
     let timeline = [
         COMPLETED,
         COMPLETED + 1,
@@ -81,69 +86,79 @@ fn eight_instants() {
         COMPLETED,
         INFLIGHT + 1,
     ];
-    report::title(b"Every base and last timestamp up to 9");
-    search_all(&timeline, 0);
-    search_all(&timeline, 1);
-    search_all(&timeline, 2);
-    search_all(&timeline, 3);
-    report::title(b"Last timestamps and bases past the end");
-    search_each(&timeline, &[1, 5, 255, 1, 6, 255, 2, 0, 255, 0, 0, LAST]);
+    report::title(out, b"Every base and last timestamp up to 9")?;
+    search_all(out, &timeline, 0)?;
+    search_all(out, &timeline, 1)?;
+    search_all(out, &timeline, 2)?;
+    search_all(out, &timeline, 3)?;
+    report::title(out, b"Last timestamps and bases past the end")?;
     search_each(
+        out,
+        &timeline,
+        &[1, 5, 255, 1, 6, 255, 2, 0, 255, 0, 0, LAST],
+    )?;
+    search_each(
+        out,
         &timeline,
         &[1, LAST, LAST + 1, 1, 254, 255, 1, 255, 255, 1, 255, 0],
-    );
+    )
 }
 
 // The first, the ninth and the last timestamp of all are completed in file group 7.
-fn whole_timeline() {
+fn whole_timeline(out: &mut impl Write) -> io::Result<()> {
     let mut timeline = [REQUESTED; TIMESTAMPS];
     timeline[0] = COMPLETED + 7;
     timeline[8] = COMPLETED + 7;
     timeline[TIMESTAMPS - 1] = COMPLETED + 7;
-    report::title(b"As many instants as a table has");
+    report::title(out, b"As many instants as a table has")?;
     search_each(
+        out,
         &timeline,
         &[7, 0, LAST, 7, 9, LAST, 7, 9, 255, 7, LAST, LAST],
-    );
+    )?;
     search_each(
+        out,
         &timeline,
         &[7, 0, LAST - 1, 7, 9, LAST - 1, 7, 0, 8, 6, 0, LAST],
-    );
+    )
 }
 
 // A completed instant of file group 245 is 255, the largest byte; of groups 246 and 255 it is more than a byte holds, 256 and 265.
-fn no_such_groups() {
+fn no_such_groups(out: &mut impl Write) -> io::Result<()> {
     let timeline = [255, NONE, INFLIGHT + 7];
-    report::title(b"File groups that do not exist");
+    report::title(out, b"File groups that do not exist")?;
     search_each(
+        out,
         &timeline,
         &[244, 0, 3, 245, 0, 3, 245, 1, 3, 246, 0, 3, 255, 0, 3],
-    );
+    )
 }
 
-fn instants() {
+fn instants(out: &mut impl Write) -> io::Result<()> {
     let timeline = [COMPLETED + 7, REQUESTED, 255];
-    report::title(b"The instants of a short timeline");
-    instant(&timeline, 0);
-    instant(&timeline, 1);
-    instant(&timeline, 2);
-    instant(&timeline, 3);
-    instant(&timeline, 4);
-    instant(&timeline, 257);
-    instant(&timeline, 4294967297);
-    instant(&timeline, u64::MAX);
+    report::title(out, b"The instants of a short timeline")?;
+    instant(out, &timeline, 0)?;
+    instant(out, &timeline, 1)?;
+    instant(out, &timeline, 2)?;
+    instant(out, &timeline, 3)?;
+    instant(out, &timeline, 4)?;
+    instant(out, &timeline, 257)?;
+    instant(out, &timeline, 4294967297)?;
+    instant(out, &timeline, u64::MAX)
 }
 
-fn empty_timeline() {
-    report::title(b"An empty timeline");
-    search_each(&[], &[0, 0, 3, 0, 2, 5]);
-    instant(&[], 1);
+fn empty_timeline(out: &mut impl Write) -> io::Result<()> {
+    report::title(out, b"An empty timeline")?;
+    search_each(out, &[], &[0, 0, 3, 0, 2, 5])?;
+    instant(out, &[], 1)
 }
 
-fn main() {
-    eight_instants();
-    whole_timeline();
-    no_such_groups();
-    instants();
-    empty_timeline();
+fn main(rt: HostRuntime) -> io::Result<()> {
+    let mut out = BufWriter::new(rt.alloc(), io::writer(&rt))?;
+    eight_instants(&mut out)?;
+    whole_timeline(&mut out)?;
+    no_such_groups(&mut out)?;
+    instants(&mut out)?;
+    empty_timeline(&mut out)?;
+    out.flush()
 }

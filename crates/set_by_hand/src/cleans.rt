@@ -4,62 +4,84 @@ use model::limits::{GROUPS, KEYS, ROWS};
 use model::{Table, Value};
 use report::{number, text};
 use scripts::{clean, play};
+use std::io;
+use std::io::Write;
 
 // A row that is present or has a value: its file group, timestamp, key and value.
-fn stored_row(row: usize, shown: bool, value: Value) {
+fn stored_row(out: &mut impl Write, row: usize, shown: bool, value: Value) -> io::Result<()> {
     if shown || value != 0 {
-        number((row / KEYS % GROUPS) as u64);
-        number((row / (KEYS * GROUPS) + 1) as u64);
-        number((row % KEYS) as u64);
-        number(value);
+        number(out, (row / KEYS % GROUPS) as u64)?;
+        number(out, (row / (KEYS * GROUPS) + 1) as u64)?;
+        number(out, (row % KEYS) as u64)?;
+        number(out, value)?;
         if !shown {
-            text(b" absent");
+            text(out, b" absent")?;
         }
-        text(b",");
+        text(out, b",")?;
     }
+    Ok(())
 }
 
-fn stored_rows(present: &[bool; ROWS], values: &[Value; ROWS]) {
+fn stored_rows(
+    out: &mut impl Write,
+    present: &[bool; ROWS],
+    values: &[Value; ROWS],
+) -> io::Result<()> {
     for row in 0..ROWS {
-        stored_row(row, present[row], values[row]);
+        stored_row(out, row, present[row], values[row])?;
     }
+    Ok(())
 }
 
 // Cleans a table at a timestamp, and prints every such row. A dropped row keeps its value: a clean is lent the presence of rows alone.
-fn clean_at(t: Table, present: &mut [bool; ROWS], values: &[Value; ROWS], at: u8) -> Table {
-    let after = clean(t, present, at as u64);
-    text(b"rows:");
-    stored_rows(present, values);
-    text(b"\n");
-    after
+fn clean_at(
+    out: &mut impl Write,
+    t: Table,
+    present: &mut [bool; ROWS],
+    values: &[Value; ROWS],
+    at: u8,
+) -> io::Result<Table> {
+    let after = clean(out, t, present, at as u64)?;
+    text(out, b"rows:")?;
+    stored_rows(out, present, values)?;
+    text(out, b"\n")?;
+    Ok(after)
 }
 
 // Cleans a table at each of these timestamps.
 fn clean_each(
+    out: &mut impl Write,
     t: Table,
     present: &mut [bool; ROWS],
     values: &[Value; ROWS],
     timestamps: &[u8],
-) -> Table {
+) -> io::Result<Table> {
     let mut t = t;
     let mut i: usize = 0;
     while i < timestamps.len() {
-        t = clean_at(t, present, values, timestamps[i]);
+        t = clean_at(out, t, present, values, timestamps[i])?;
         i += 1;
     }
-    t
+    Ok(t)
 }
 
 // Cleans a table with these rows, and no others, at each of these timestamps.
-pub fn clean_rows(t: Table, rows: &[u8], timestamps: &[u8]) {
+pub fn clean_rows(
+    out: &mut impl Write,
+    t: Table,
+    rows: &[u8],
+    timestamps: &[u8],
+) -> io::Result<()> {
     let mut present = [false; ROWS];
     let mut values: [Value; ROWS] = [0; ROWS];
     set_rows(&mut present, &mut values, rows);
-    clean_each(t, &mut present, &values, timestamps);
+    clean_each(out, t, &mut present, &values, timestamps)?;
+    Ok(())
 }
 
 // The same, and then a script on what is left.
 pub fn clean_story(
+    out: &mut impl Write,
     title: &[u8],
     t: Table,
     rows: &[u8],
@@ -67,11 +89,11 @@ pub fn clean_story(
     script: &[u8],
     first: u64,
     last: u64,
-) {
+) -> io::Result<()> {
     let mut present = [false; ROWS];
     let mut values: [Value; ROWS] = [0; ROWS];
     set_rows(&mut present, &mut values, rows);
-    report::title(title);
-    let after = clean_each(t, &mut present, &values, timestamps);
-    play(after, &present, &values, script, first, last);
+    report::title(out, title)?;
+    let after = clean_each(out, t, &mut present, &values, timestamps)?;
+    play(out, after, &present, &values, script, first, last)
 }

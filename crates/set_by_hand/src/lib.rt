@@ -8,6 +8,8 @@ use model::limits::ROWS;
 use model::{Mode, Table, Value, Writer};
 use scripts::{play, run_printed};
 use slices::row_place;
+use std::io;
+use std::io::Write;
 
 // A writer with a put.
 pub fn putting(phase: u8, key: u8, value: Value, group: u8, ts: u8, base: u8) -> Writer {
@@ -40,10 +42,17 @@ pub fn bare(mode: Mode, last: u8) -> Table {
 }
 
 // Runs a log on a table without rows, whole or step by step, prints its answers, and gives the table.
-pub fn run_bare(t: Table, label: &[u8], log: &[u8], by_steps: bool) -> Table {
+pub fn run_bare(
+    out: &mut impl Write,
+    t: Table,
+    label: &[u8],
+    log: &[u8],
+    by_steps: bool,
+) -> io::Result<Table> {
     let mut present = [false; ROWS];
     let mut values: [Value; ROWS] = [0; ROWS];
     let ran = run_printed(
+        out,
         t,
         &mut present,
         &mut values,
@@ -51,8 +60,8 @@ pub fn run_bare(t: Table, label: &[u8], log: &[u8], by_steps: bool) -> Table {
         log,
         &mut [0; 8],
         by_steps,
-    );
-    ran.table
+    )?;
+    Ok(ran.table)
 }
 
 // A row of the slice of a file group and a timestamp.
@@ -91,10 +100,18 @@ pub fn set_rows(present: &mut [bool; ROWS], values: &mut [Value; ROWS], rows: &[
 }
 
 // A script on a table with these rows, and no others.
-pub fn story(title: &[u8], t: Table, rows: &[u8], script: &[u8], first: u64, last: u64) {
+pub fn story(
+    out: &mut impl Write,
+    title: &[u8],
+    t: Table,
+    rows: &[u8],
+    script: &[u8],
+    first: u64,
+    last: u64,
+) -> io::Result<()> {
     let mut present = [false; ROWS];
     let mut values: [Value; ROWS] = [0; ROWS];
     set_rows(&mut present, &mut values, rows);
-    report::title(title);
-    play(t, &present, &values, script, first, last);
+    report::title(out, title)?;
+    play(out, t, &present, &values, script, first, last)
 }

@@ -6,25 +6,30 @@ mod examples;
 mod pessimistic;
 mod traces;
 
-fn main() {
-    examples::two_keys_or_one();
-    examples::lost_write();
-    examples::two_groups();
-    examples::out_of_order();
-    examples::out_of_order_two_groups();
-    traces::conflicts();
-    traces::refusals();
-    traces::erased_word();
-    traces::ends();
-    traces::starts();
-    traces::stops();
-    entries::taken_out();
-    entries::left();
-    entries::looked_up();
-    pessimistic::conflicts();
-    pessimistic::checks();
-    pessimistic::ends();
-    pessimistic::refusals();
-    pessimistic::apart();
-    pessimistic::entries();
+use std::io;
+use std::io::{BufWriter, Write};
+
+fn main(rt: HostRuntime) -> io::Result<()> {
+    let mut out = BufWriter::new(rt.alloc(), io::writer(&rt))?;
+    examples::two_keys_or_one(&mut out)?;
+    examples::lost_write(&mut out)?;
+    examples::two_groups(&mut out)?;
+    examples::out_of_order(&mut out)?;
+    examples::out_of_order_two_groups(&mut out)?;
+    traces::conflicts(&mut out)?;
+    traces::refusals(&mut out)?;
+    traces::erased_word(&mut out)?;
+    traces::ends(&mut out)?;
+    traces::starts(&mut out)?;
+    traces::stops(&mut out)?;
+    entries::taken_out(&mut out)?;
+    entries::left(&mut out)?;
+    entries::looked_up(&mut out)?;
+    pessimistic::conflicts(&mut out)?;
+    pessimistic::checks(&mut out)?;
+    pessimistic::ends(&mut out)?;
+    pessimistic::refusals(&mut out)?;
+    pessimistic::apart(&mut out)?;
+    pessimistic::entries(&mut out)?;
+    out.flush()
 }

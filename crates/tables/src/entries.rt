@@ -2,6 +2,8 @@
 use model::instants::COMPLETED;
 use model::{Mode, Table, Writer};
 use set_by_hand::{bare, putting, removing, story};
+use std::io;
+use std::io::Write;
 
 // A writer that is said to have made its key's entry.
 fn maker(x: Writer) -> Writer {
@@ -42,7 +44,7 @@ fn made() -> Table {
 
 // Whoever ends without commit takes its key's entry out, whatever the entry names. A commit leaves it, and so does who gives up after an index
 // step that found the entry there, or after a start.
-pub fn said_to_be_made() {
+pub fn said_to_be_made(out: &mut impl Write) -> io::Result<()> {
     let title = b"Writers that are said to have made an entry";
     let script = b"\
         writer 0 gives up:\x00\x09;\
@@ -62,5 +64,5 @@ pub fn said_to_be_made() {
         \x0f\x01\x06\x6a\x01\x0f\x03\x0f\x04\x0f\x05\x0f\x06\x0f\x07\x0f\x08\
         \x0f\x01\x07\x6b\x01\x0f\x03\x0f\x04\x0f\x05\x0f\x06\x0f\x07\x0f\x08\
         \x0f\x01\x08\x6c\x01\x0f\x03\x0f\x04\x0f\x05\x0f\x06\x0f\x07\x0f\x08;";
-    story(title, made(), &[3, 8, 7, 71], script, 20, 20);
+    story(out, title, made(), &[3, 8, 7, 71], script, 20, 20)
 }

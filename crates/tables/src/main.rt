@@ -7,16 +7,21 @@ mod held_locks;
 mod numbers;
 mod steps_and_locks;
 
-fn main() {
-    groups::completed_elsewhere();
-    groups::base_of_another_group();
-    groups::two_groups_at_once();
-    groups::one_key_twice();
-    held_locks::held_by_none();
-    held_locks::two_held();
-    held_locks::at_phase_5();
-    held_locks::held_by_another();
-    steps_and_locks::of_each_mode();
-    numbers::not_given();
-    entries::said_to_be_made();
+use std::io;
+use std::io::{BufWriter, Write};
+
+fn main(rt: HostRuntime) -> io::Result<()> {
+    let mut out = BufWriter::new(rt.alloc(), io::writer(&rt))?;
+    groups::completed_elsewhere(&mut out)?;
+    groups::base_of_another_group(&mut out)?;
+    groups::two_groups_at_once(&mut out)?;
+    groups::one_key_twice(&mut out)?;
+    held_locks::held_by_none(&mut out)?;
+    held_locks::two_held(&mut out)?;
+    held_locks::at_phase_5(&mut out)?;
+    held_locks::held_by_another(&mut out)?;
+    steps_and_locks::of_each_mode(&mut out)?;
+    numbers::not_given(&mut out)?;
+    entries::said_to_be_made(&mut out)?;
+    out.flush()
 }

@@ -2,6 +2,8 @@
 use model::instants::COMPLETED;
 use model::{Mode, Table};
 use set_by_hand::{bare, putting, removing, story};
+use std::io;
+use std::io::Write;
 
 // Timestamps 3 to 5 are issued and have no instant. Writer 0, at its read step, holds timestamp 1, which is completed in its own file group.
 // Writer 1, at its index step, has a remove of a key that is not indexed. Writer 3 has a base above its timestamp, and its slice has a row already.
@@ -17,7 +19,7 @@ fn table_with() -> Table {
     t
 }
 
-pub fn not_given() {
+pub fn not_given(out: &mut impl Write) -> io::Result<()> {
     let title = b"Numbers that no steps give";
     let script = b"\
         as it is:;\
@@ -28,11 +30,12 @@ pub fn not_given() {
         key 9 is in no group:\x02\x01\x09\x5b\x03\x02\x03\x02\x04;\
         writer 15 starts anew:\x0f\x01\x1e\x46\x06\x0f\x03\x0f\x04\x0f\x05\x0f\x06\x0f\x07\x0f\x08;";
     story(
+        out,
         title,
         table_with(),
         &[2, 1, 4, 40, 3, 2, 6, 60, 2, 4, 9, 90],
         script,
         1,
         7,
-    );
+    )
 }
