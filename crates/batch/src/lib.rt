@@ -1,10 +1,11 @@
-// Logs on standard input, each four bytes of length, the lowest first, and its bytes: their transcripts, printed.
+// Logs that are read from an input, each four bytes of length, the lowest first, and its bytes: their transcripts, printed.
 #![tactic(auto)]
 
 ghost use Rattle.std.specs.Prelude.{◌+◌, ◌<◌, ◌≤◌, ◌^◌, length};
 
-use libc::{STDIN_FILENO, STDOUT_FILENO};
 use model::Mode;
+use std::io;
+use std::io::{Read, Write};
 use transcript::MAX_TEXT;
 
 // Room for the whole input.
@@ -28,35 +29,40 @@ fn length_at(input: &[u8], at: usize) -> usize
     a + 256 * (b + 256 * (c + 256 * d))
 }
 
-fn print_log(mode: Mode, number: u64, log: &[u8]) {
-    io::write_all(STDOUT_FILENO, b"log ");
-    io::print_decimal(STDOUT_FILENO, number);
-    io::write_all(STDOUT_FILENO, b"\n");
+fn print_log<W: Write>(out: &mut W, mode: Mode, number: u64, log: &[u8]) -> io::Result<()> {
+    out.write_all(b"log ")?;
+    write!(out, "{number}")?;
+    out.write_all(b"\n")?;
     let mut text = [0u8; MAX_TEXT];
     let size = transcript::transcribe(mode, log, &mut text);
-    io::write_all(STDOUT_FILENO, &text[..size]);
+    out.write_all(&text[..size])
 }
 
 // Prints each whole log, with its number.
-fn print_logs(mode: Mode, input: &[u8]) {
+fn print_logs<W: Write>(out: &mut W, mode: Mode, input: &[u8]) -> io::Result<()> {
     let mut number: u64 = 0;
     let mut at: usize = 0;
     while 4 <= input.len() - at {
         let size = length_at(input, at);
         let first = at + 4;
         if input.len() - first < size {
-            return;
+            return Ok(());
         }
         let next = first + size;
-        print_log(mode, number, &input[first..next]);
+        print_log(out, mode, number, &input[first..next])?;
         number += 1;
         at = next;
     }
+    Ok(())
 }
 
-// Prints the transcript of each log on standard input, run on a fresh table of a mode.
-pub fn print_transcripts(mode: Mode) {
+// Prints the transcript of each log that a reader gives, run on a fresh table of a mode.
+pub fn print_transcripts<W: Write, R: Read>(
+    out: &mut W,
+    reader: &mut R,
+    mode: Mode,
+) -> io::Result<()> {
     let mut input = [0u8; MAX_INPUT];
-    let size = io::read_full(STDIN_FILENO, &mut input);
-    print_logs(mode, &input[..size]);
+    let size = input::read_full(reader, &mut input)?;
+    print_logs(out, mode, &input[..size])
 }

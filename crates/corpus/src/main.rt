@@ -2,7 +2,8 @@
 #![tactic(auto)]
 
 use model::Mode;
+use std::io;
 
-fn main() {
-    batch::print_transcripts(Mode::Optimistic);
+fn main(rt: HostRuntime) -> io::Result<()> {
+    batch::print_transcripts(&mut rt.stdout(), &mut rt.stdin(), Mode::Optimistic)
 }

@@ -4,37 +4,45 @@
 mod five;
 mod print;
 
-fn read(title: &[u8], log: &[u8]) {
-    print::title(title);
+use std::io;
+use std::io::Write;
+
+fn read<W: Write>(out: &mut W, title: &[u8], log: &[u8]) -> io::Result<()> {
+    print::title(out, title)?;
     let found = five::read_five(log);
     let first = found.first;
-    print::record(first);
+    print::record(out, first)?;
     let second = found.second;
-    print::record(second);
+    print::record(out, second)?;
     let third = found.third;
-    print::record(third);
+    print::record(out, third)?;
     let fourth = found.fourth;
-    print::record(fourth);
+    print::record(out, fourth)?;
     let fifth = found.fifth;
-    print::record(fifth);
-    print::place(found.place);
+    print::record(out, fifth)?;
+    print::place(out, found.place)
 }
 
-fn main() {
+fn main(rt: HostRuntime) -> io::Result<()> {
+    let out = &mut rt.stdout();
     read(
+        out,
         b"A put, a look up, and a record of kind 10",
         b"\x00\x01\x01\xAC\x02\x02\x00\x03\x00\x0A\x00\x03",
-    );
+    )?;
     read(
+        out,
         b"A remove, a give up and a commit, to the log's end",
         b"\x07\x02\x63\x00\x09\x0A\x08",
-    );
+    )?;
     read(
+        out,
         b"A read, and a put that is cut short",
         b"\x00\x04\x00\x01\x63",
-    );
-    read(b"A writer longer than needed", b"\x80\x00\x03");
+    )?;
+    read(out, b"A writer longer than needed", b"\x80\x00\x03")?;
     read(
+        out,
         b"The longest record, and 40 bytes of another",
         b"\
         \xFF\xFF\xFF\xFF\xFF\xFF\xFF\xFF\xFF\x01\x01\
@@ -45,6 +53,6 @@ fn main() {
         \xFF\xFF\xFF\xFF\xFF\xFF\xFF\xFF\xFF\x01\
         \xFF\xFF\xFF\xFF\xFF\xFF\xFF\xFF\xFF\x01\
         \xFF\xFF\xFF\xFF\xFF\xFF\xFF\xFF\xFF",
-    );
-    read(b"No records", b"");
+    )?;
+    read(out, b"No records", b"")
 }

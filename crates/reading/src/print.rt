@@ -1,75 +1,76 @@
 // Printing what a call gave.
 use common::Word;
-use libc::STDOUT_FILENO;
 use model::{Action, Operation};
+use std::io;
+use std::io::Write;
 use steplog::Record;
 
-fn text(s: &[u8]) {
-    io::write_all(STDOUT_FILENO, s);
+fn text<W: Write>(out: &mut W, s: &[u8]) -> io::Result<()> {
+    out.write_all(s)
 }
 
-fn number(n: u64) {
-    io::print_decimal(STDOUT_FILENO, n);
+fn number<W: Write>(out: &mut W, n: u64) -> io::Result<()> {
+    write!(out, "{n}")
 }
 
 // A word of a line, and the number behind it.
-fn field(word: &[u8], n: Word) {
-    text(word);
-    number(n);
+fn field<W: Write>(out: &mut W, word: &[u8], n: Word) -> io::Result<()> {
+    text(out, word)?;
+    number(out, n)
 }
 
-pub fn title(s: &[u8]) {
-    text(b"== ");
-    text(s);
-    text(b"\n");
+pub fn title<W: Write>(out: &mut W, s: &[u8]) -> io::Result<()> {
+    text(out, b"== ")?;
+    text(out, s)?;
+    text(out, b"\n")
 }
 
-fn operation(started: Operation) {
+fn operation<W: Write>(out: &mut W, started: Operation) -> io::Result<()> {
     match started {
         Operation::Put { key, value, group } => {
-            field(b" put ", key);
-            field(b" ", value);
-            field(b" ", group);
+            field(out, b" put ", key)?;
+            field(out, b" ", value)?;
+            field(out, b" ", group)
         }
-        Operation::Remove { key } => field(b" remove ", key),
+        Operation::Remove { key } => field(out, b" remove ", key),
     }
 }
 
-fn action(done: Action) {
+fn action<W: Write>(out: &mut W, done: Action) -> io::Result<()> {
     match done {
-        Action::Start(started) => operation(started),
-        Action::LookUp => text(b" look up"),
-        Action::Read => text(b" read"),
-        Action::Write => text(b" write"),
-        Action::Index => text(b" index"),
-        Action::Check => text(b" check"),
-        Action::Commit => text(b" commit"),
-        Action::Abort => text(b" give up"),
+        Action::Start(started) => operation(out, started),
+        Action::LookUp => text(out, b" look up"),
+        Action::Read => text(out, b" read"),
+        Action::Write => text(out, b" write"),
+        Action::Index => text(out, b" index"),
+        Action::Check => text(out, b" check"),
+        Action::Commit => text(out, b" commit"),
+        Action::Abort => text(out, b" give up"),
     }
 }
 
 // A step and the place behind its record, or the stop.
-pub fn record(found: Record) {
+pub fn record<W: Write>(out: &mut W, found: Record) -> io::Result<()> {
     match found {
         Record::Taken { step, next } => {
             let writer = step.writer;
             let done = step.action;
-            field(b"writer ", writer);
-            action(done);
-            text(b", next at ");
-            number(next as u64);
+            field(out, b"writer ", writer)?;
+            action(out, done)?;
+            text(out, b", next at ")?;
+            number(out, next as u64)?;
         }
         Record::Stop(stop) => {
-            text(b"stop ");
-            number(stop as u64);
+            text(out, b"stop ")?;
+            number(out, stop as u64)?;
         }
     }
-    text(b"\n");
+    text(out, b"\n")
 }
 
 // Where the reader stands.
-pub fn place(at: usize) {
-    text(b"reader at ");
-    number(at as u64);
-    text(b"\n");
+pub fn place<W: Write>(out: &mut W, at: usize) -> io::Result<()> {
+    text(out, b"reader at ")?;
+    number(out, at as u64)?;
+    text(out, b"\n")
 }

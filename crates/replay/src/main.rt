@@ -3,8 +3,9 @@
 
 ghost use Rattle.replay.specs.Within.{within};
 
-use libc::{STDERR_FILENO, STDIN_FILENO, STDOUT_FILENO};
 use model::Mode;
+use std::io;
+use std::io::{Read, Write};
 use transcript::{MAX_LOG, MAX_TEXT};
 
 // One byte more than the longest log, which tells a longer one.
@@ -18,23 +19,22 @@ enum Input {
 }
 
 // One read, which may give any part of what is to come; 0 bytes at the end of the input.
-fn read_some(buffer: &mut [u8]) -> Input
+fn read_some<R: Read>(input: &mut R, buffer: &mut [u8]) -> Input
     ensures { within result buffer.new }
 {
-    let got = libc::read(STDIN_FILENO, &mut *buffer);
-    if got < 0 {
-        return Input::Failed;
+    match input.read(buffer) {
+        Ok(size) => Input::Bytes(size),
+        Err(_) => Input::Failed,
     }
-    Input::Bytes(io::count(got, buffer))
 }
 
 // Reads until the buffer is full or the input ends.
-fn read_input(buffer: &mut [u8]) -> Input
+fn read_input<R: Read>(input: &mut R, buffer: &mut [u8]) -> Input
     ensures { within result buffer.new }
 {
     let mut size: usize = 0;
     while size < buffer.len() {
-        let found = read_some(&mut buffer[size..]);
+        let found = read_some(input, &mut buffer[size..]);
         let Input::Bytes(more) = found else {
             return Input::Failed;
         };
@@ -46,14 +46,13 @@ fn read_input(buffer: &mut [u8]) -> Input
     Input::Bytes(size)
 }
 
-fn main() {
+fn main(rt: HostRuntime) -> io::Result<()> {
     let mut input = [0u8; MAX_INPUT];
-    let found = read_input(&mut input);
+    let found = read_input(&mut rt.stdin(), &mut input);
     let Input::Bytes(size) = found else {
-        io::write_all(STDERR_FILENO, b"read error\n");
-        return;
+        return rt.stderr().write_all(b"read error\n");
     };
     let mut text = [0u8; MAX_TEXT];
     let length = transcript::transcribe(Mode::Optimistic, &input[..size], &mut text);
-    io::write_all(STDOUT_FILENO, &text[..length]);
+    rt.stdout().write_all(&text[..length])
 }

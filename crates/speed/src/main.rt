@@ -9,9 +9,13 @@ ghost use Rattle.std.specs.Prelude.{◌<◌, ◌≤◌};
 
 use common::Word;
 use leb128::Decoded;
-use libc::STDIN_FILENO;
 use model::limits::{KEYS, ROWS};
 use model::{Mode, Value};
+use std::io;
+use std::io::Write;
+
+// Room for the input.
+const MAX_INPUT: usize = 4096;
 
 // The steps of an operation that is carried out whole.
 const STEPS: usize = 7;
@@ -34,7 +38,13 @@ fn behind(end: usize, at: usize, size: usize) -> usize
 }
 
 // Runs a log on a fresh optimistic table, STEPS records at a time, with a scan at the last timestamp issued after each.
-fn pass(log: &[u8], present: &mut [bool; ROWS], values: &mut [Value; ROWS], printed: bool) {
+fn pass<W: Write>(
+    out: &mut W,
+    log: &[u8],
+    present: &mut [bool; ROWS],
+    values: &mut [Value; ROWS],
+    printed: bool,
+) -> io::Result<()> {
     let mut answers = [0u8; STEPS];
     let mut rows: [Word; ROOM] = [0; ROOM];
     let mut t = table::fresh(Mode::Optimistic, present, values);
@@ -44,34 +54,36 @@ fn pass(log: &[u8], present: &mut [bool; ROWS], values: &mut [Value; ROWS], prin
         t = ran.table;
         let scanned = snapshot::scan(t, present, values, t.last as u64, &mut rows);
         if printed {
-            print::operation(&answers, ran.count, &rows, scanned.count);
+            print::operation(out, &answers, ran.count, &rows, scanned.count)?;
         }
         at = behind(log.len(), at, ran.offset);
     }
+    Ok(())
 }
 
-fn passes(times: Word, log: &[u8]) {
+fn passes<W: Write>(out: &mut W, times: Word, log: &[u8]) -> io::Result<()> {
     let mut present = [false; ROWS];
     let mut values: [Value; ROWS] = [0; ROWS];
     for _ in 1..times {
-        pass(log, &mut present, &mut values, false);
+        pass(out, log, &mut present, &mut values, false)?;
     }
-    pass(log, &mut present, &mut values, true);
+    pass(out, log, &mut present, &mut values, true)
 }
 
 // The number of passes, and the log behind it.
-fn run_input(input: &[u8]) {
+fn run_input<W: Write>(out: &mut W, input: &[u8]) -> io::Result<()> {
     let first = leb128::decode(input, 0);
     let Decoded::Number { value, next } = first else {
-        return;
+        return Ok(());
     };
     if next <= input.len() {
-        passes(value, &input[next..]);
+        passes(out, value, &input[next..])?;
     }
+    Ok(())
 }
 
-fn main() {
-    let mut buffer = io::buffer();
-    let size = io::read_full(STDIN_FILENO, &mut buffer);
-    run_input(&buffer[..size]);
+fn main(rt: HostRuntime) -> io::Result<()> {
+    let mut buffer = [0u8; MAX_INPUT];
+    let size = input::read_full(&mut rt.stdin(), &mut buffer)?;
+    run_input(&mut rt.stdout(), &buffer[..size])
 }

@@ -1,46 +1,55 @@
 // Printing what an operation and the scan after it gave: each answer on its own line, then each row.
 use common::Word;
-use libc::STDOUT_FILENO;
+use std::io;
+use std::io::Write;
 
 // A number, and the byte behind it.
-fn field(number: u64, end: &[u8]) {
-    io::print_decimal(STDOUT_FILENO, number);
-    io::write_all(STDOUT_FILENO, end);
+fn field<W: Write>(out: &mut W, number: u64, end: &[u8]) -> io::Result<()> {
+    write!(out, "{number}")?;
+    out.write_all(end)
 }
 
-fn answer(number: u8) {
-    field(number as u64, b"\n");
+fn answer<W: Write>(out: &mut W, number: u8) -> io::Result<()> {
+    field(out, number as u64, b"\n")
 }
 
 // The first answers of a buffer.
-fn answers(buffer: &[u8], count: usize) {
+fn answers<W: Write>(out: &mut W, buffer: &[u8], count: usize) -> io::Result<()> {
     let mut i: usize = 0;
     while i < buffer.len() && i < count {
-        answer(buffer[i]);
+        answer(out, buffer[i])?;
         i += 1;
     }
+    Ok(())
 }
 
 // A number of a row, at its place among the row's three.
-fn column(place: usize, number: Word) {
+fn column<W: Write>(out: &mut W, place: usize, number: Word) -> io::Result<()> {
     if place < 2 {
-        field(number, b" ");
+        field(out, number, b" ")
     } else {
-        field(number, b"\n");
+        field(out, number, b"\n")
     }
 }
 
 // The first rows of a buffer.
-fn rows(buffer: &[Word], count: usize) {
+fn rows<W: Write>(out: &mut W, buffer: &[Word], count: usize) -> io::Result<()> {
     let mut i: usize = 0;
     while i < buffer.len() && i / 3 < count {
-        column(i % 3, buffer[i]);
+        column(out, i % 3, buffer[i])?;
         i += 1;
     }
+    Ok(())
 }
 
 // The answers of an operation, and the rows of the scan after it.
-pub fn operation(answered: &[u8], count: usize, listed: &[Word], row_count: usize) {
-    answers(answered, count);
-    rows(listed, row_count);
+pub fn operation<W: Write>(
+    out: &mut W,
+    answered: &[u8],
+    count: usize,
+    listed: &[Word],
+    row_count: usize,
+) -> io::Result<()> {
+    answers(out, answered, count)?;
+    rows(out, listed, row_count)
 }

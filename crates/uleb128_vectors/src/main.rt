@@ -4,53 +4,55 @@
 
 use common::Word;
 use leb128::Decoded;
-use libc::{STDIN_FILENO, STDOUT_FILENO};
+use std::io;
+use std::io::Write;
 
-fn print_bytes(bytes: &[u8]) {
-    let mut i = 0;
-    while i < bytes.len() {
-        io::print_hex(STDOUT_FILENO, bytes[i] as u64, 2);
-        i += 1;
+// Room for the whole input.
+const MAX_INPUT: usize = 4096;
+
+fn print_bytes<W: Write>(out: &mut W, bytes: &[u8]) -> io::Result<()> {
+    for byte in bytes {
+        write!(out, "{byte:02x}")?;
     }
+    Ok(())
 }
 
-fn print_number(number: Word) {
+fn print_number<W: Write>(out: &mut W, number: Word) -> io::Result<()> {
     let mut buffer = [0u8; 16];
     let size = leb128::encode(number, &mut buffer);
-    io::print_decimal(STDOUT_FILENO, number);
-    io::write_all(STDOUT_FILENO, b" ");
-    print_bytes(&buffer[..size]);
-    io::write_all(STDOUT_FILENO, b"\n");
+    write!(out, "{number}")?;
+    out.write_all(b" ")?;
+    print_bytes(out, &buffer[..size])?;
+    out.write_all(b"\n")
 }
 
-fn print_stop(stop: u8, at: usize) {
-    io::write_all(STDOUT_FILENO, b"stop ");
-    io::print_decimal(STDOUT_FILENO, stop as u64);
-    io::write_all(STDOUT_FILENO, b" at ");
-    io::print_decimal(STDOUT_FILENO, at as u64);
-    io::write_all(STDOUT_FILENO, b"\n");
+fn print_stop<W: Write>(out: &mut W, stop: u8, at: usize) -> io::Result<()> {
+    out.write_all(b"stop ")?;
+    write!(out, "{stop}")?;
+    out.write_all(b" at ")?;
+    write!(out, "{at}")?;
+    out.write_all(b"\n")
 }
 
 // The numbers of some bytes, one behind the other.
-fn print_numbers(bytes: &[u8]) {
+fn print_numbers<W: Write>(out: &mut W, bytes: &[u8]) -> io::Result<()> {
     let mut at = 0;
     while at < bytes.len() {
         match leb128::decode(bytes, at) {
             Decoded::Number { value, next } => {
-                print_number(value);
+                print_number(out, value)?;
                 at = next;
             }
             Decoded::Stop(stop) => {
-                print_stop(stop, at);
-                return;
+                return print_stop(out, stop, at);
             }
         }
     }
-    print_stop(0, at);
+    print_stop(out, 0, at)
 }
 
-fn main() {
-    let mut buffer = io::buffer();
-    let size = io::read_full(STDIN_FILENO, &mut buffer);
-    print_numbers(&buffer[..size]);
+fn main(rt: HostRuntime) -> io::Result<()> {
+    let mut buffer = [0u8; MAX_INPUT];
+    let size = input::read_full(&mut rt.stdin(), &mut buffer)?;
+    print_numbers(&mut rt.stdout(), &buffer[..size])
 }
