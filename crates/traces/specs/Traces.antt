@@ -4,39 +4,22 @@
 -- word (document 02, Q-3), the search of the check and its count (Q-2), index entries that are taken out again (Q-4), pessimistic tables (Q-9, in
 -- Pessimistic.antt), cleaned tables (Q-13, in Cleaning.antt), candidates of a commit (Q-12, in Candidates.antt), tables that no run reaches. The lists
 -- of steps are in Stories.antt, the tables in Tables.antt, what several cases state in Stated.antt.
-use Rattle.std.specs.Prelude.{◌-◌, ◌≡◌, refl, replicate, take}
-use Rattle.std.proofs.Common.{ap, ◌∙◌}
-use mathlib.Core.List.{List, [], ◌∷◌, ◌++◌, flatten, map}
-use Rattle.leb128.specs.Coding.{encoded_in, encoded, decoded_in, decoded_at, decoded_numbers}
-use Rattle.common.specs.Counting.{upd, each_below, list_below, up_to}
-use Rattle.common.specs.Pasting.{pasted}
+use Rattle.std.specs.Prelude.{◌-◌, replicate, take}
+use mathlib.Core.List.{List, [], ◌∷◌, ◌++◌}
+use Rattle.common.specs.Counting.{list_below}
 use Rattle.model.specs.Limits.{writers}
-use Rattle.model.specs.State.{fresh, requested, inflight, completed, newest, cell}
+use Rattle.model.specs.State.{requested, inflight, completed}
 use Rattle.model.specs.State.{with_last}
-use Rattle.model.specs.Modes.{guard, lock_phase, after_index, may_check}
-use Rattle.model.specs.Range.{in_range, writers_in_range, all_at_most}
-use Rattle.model.specs.Notes.{completed_count, row_noted, notes_after}
-use Rattle.model.specs.Candidates.{has_noted, by_start, by_completion, candidates}
-use Rattle.model.specs.Rules.{with_instant, copied, sliced, start, look_up, read_base, write_slice, enter_index, check_conflict, commit, abort}
-use Rattle.model.specs.Rules.{ruled, act, step_tested, step}
-use Rattle.model.specs.Machine.{answers_from}
-use Rattle.model.specs.Snapshot.{rows_at, numbers, scan, point_read, instant_state, instant_at}
-use Rattle.model.specs.History.{empty, start_recorded, commit_recorded, end_recorded, recorded}
-use Rattle.model.specs.Cleaning.{drops, swept, bases_kept, clean}
-use Rattle.model.specs.Isolation.{events_of, next, stored_by}
+use Rattle.model.specs.Rules.{with_instant}
+use Rattle.model.specs.Isolation.{events_of}
 use Rattle.model.specs.declared.Mode.TheVariants.{Optimistic}
 use Rattle.model.specs.declared.Operation.TheVariants.{Put, Remove}
 use Rattle.model.specs.declared.Action.TheVariants.{Start, LookUp, Read, Write, Index, Check, Commit, Abort}
-use Rattle.metadata.specs.Largest.{largest}
-use Rattle.metadata.specs.Search.{newest_above}
-use Rattle.steplog.specs.Records.{encoded_step, of_kind, arguments_by, record_by, record_numbers, log_read_from, log_read, old_log_read}
-use Rattle.logwriter.specs.Writing.{log_written}
-use Rattle.run.specs.Runs.{of_log, of_list, run_from}
-use Rattle.rules.specs.Parts.{act_on_parts}
-use Rattle.traces.specs.Ways.{tested_once, ways_same}
+use Rattle.steplog.specs.Records.{log_read, old_log_read}
+use Rattle.run.specs.Runs.{of_log, of_list}
 use Rattle.traces.specs.Cases.{encode, decode, read_record, read_log, written, ran, answers, each_answer, scanned, read, stands}
 use Rattle.traces.specs.Cases.{on_parts, place, rows, instants, history, stored, searched, judged}
-use Rattle.traces.specs.Cases.{writer_numbers, pending_operation, committed_operation, does, result_by, result, Trace, ◌gives◌}
+use Rattle.traces.specs.Cases.{writer_numbers, pending_operation, committed_operation, does, Trace, ◌gives◌}
 use Rattle.traces.specs.Stories.{rest_of, whole, p5, p6, p7, p8, p10, start_and_abort, aborts, beside, put_and_remove, second_put, given_up_after}
 use Rattle.traces.specs.Stories.{proposes, entry_before, fails_later, looked_up, removes_indexed, every_kind, every_kind_log, printed_log, largest_number}
 use Rattle.traces.specs.Stories.{largest_code, longest_start, longest_log, start_erased, start_erased_log, old_largest_log, past_old_log, wide_value}
@@ -375,18 +358,3 @@ traces =
     ∷ (judged (at_largest_but 20 (λ s. with_instant s 21 requested)) gives out_of_range_numbers)
     ∷ (judged (at_largest_but 20 (λ s. with_instant s 128 requested)) gives out_of_range_numbers)
     ∷ pessimistic_traces ++ cleaning_traces ++ candidates_traces
-
--- the table, computed with one range test of steps for each list
-computed : map (λ (t : Trace). result_by tested_once t.case) traces ≡ map (λ (t : Trace). t.stated) traces
-unfolding traces pessimistic_traces cleaning_traces candidates_traces result_by act_on_parts encoded encoded_in decoded_at decoded_in decoded_numbers answers_from
-    step step_tested ruled act start look_up read_base write_slice enter_index check_conflict commit abort in_range each_below writers_in_range all_at_most
-    guard lock_phase after_index may_check completed_count row_noted notes_after has_noted by_start by_completion candidates
-    newest largest up_to newest_above cell copied sliced fresh scan rows_at numbers list_below point_read instant_state instant_at
-    drops swept bases_kept clean next
-    upd empty start_recorded commit_recorded end_recorded recorded stored_by
-    encoded_step of_kind arguments_by record_by record_numbers log_read_from log_read log_written pasted flatten run_from
-computed = refl
-
--- the one claim
-pub traces_hold : map (λ (t : Trace). result t.case) traces ≡ map (λ (t : Trace). t.stated) traces
-traces_hold = ap (λ way. map (λ (t : Trace). result_by way t.case) traces) ways_same ∙ computed
