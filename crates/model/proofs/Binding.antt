@@ -1,6 +1,6 @@
 -- What binds a key.
---     puts-on, puts-key    which operations are puts on a key
---     still-bound          what binds a key still does after a move of writer w, if that is shown for w's own operation in progress
+--     puts_on_lem, puts_key    which operations are puts on a key
+--     still_bound          what binds a key still does after a move of writer w, if that is shown for w's own operation in progress
 use Prim.Native.Nat.{ℕ}
 use mathlib.Core.Path.{◌≡◌, refl, ◌∙◌}
 use mathlib.Core.Logic.{◌≢◌, by_cases}

@@ -1,15 +1,15 @@
 -- Laws of a clean, on any table.
---     clean-rules       its outcomes, each with what its tests have shown
---     refused-clean     a refused clean changes nothing
---     clean-in-range    a clean leaves a state in range in range, and is not answered 17 there
---     clean-lengths     it keeps the lengths of the lists
---     clean-rises       it does not lower the horizon
---     clean-leaves      it changes nothing but the horizon and the presence of rows
---     kept-slice        a slice that it does not drop is as it was
---     dropped-slice     of one that it drops no row is left
---     clean-twice       the same clean once more changes nothing more
+--     clean_rules       its outcomes, each with what its tests have shown
+--     refused_clean     a refused clean changes nothing
+--     clean_in_range    a clean leaves a state in range in range, and is not answered 17 there
+--     clean_lengths     it keeps the lengths of the lists
+--     clean_rises       it does not lower the horizon
+--     clean_leaves      it changes nothing but the horizon and the presence of rows
+--     kept_slice        a slice that it does not drop is as it was
+--     dropped_slice     of one that it drops no row is left
+--     clean_twice       the same clean once more changes nothing more
 -- What it drops, in terms of the completed instants:
---     not-dropped       a slice that is not completed, the newest of its file group at or below c, and a newer one stay
+--     not_dropped       a slice that is not completed, the newest of its file group at or below c, and a newer one stay
 --     base_kept         and so does the base of a writer at phase 3
 use Prim.Native.Nat.{ℕ, zero, suc, ◌≤◌, ◌<◌}
 use mathlib.Core.Path.{◌≡◌, refl, sym, ap, ◌∙◌, fun_ext}

@@ -1,19 +1,19 @@
 -- What follows, after any list of events from a fresh table of either mode; what follows for locks is in Exclusion.antt.
---     in-progress        an operation is in progress exactly if its writer is off phase 0, and under the writer's timestamp
---     point-read-listed  a point read at or above the horizon gives the key's row of the history's listing, or absent
---     one-slot           committed slices of different file groups have no row of one key
---     settled-scan       a scan of a settled timestamp gives the same whatever events follow, until a clean passes it
+--     in_progress_lem    an operation is in progress exactly if its writer is off phase 0, and under the writer's timestamp
+--     point_read_listed  a point read at or above the horizon gives the key's row of the history's listing, or absent
+--     one_slot           committed slices of different file groups have no row of one key
+--     settled_scan       a scan of a settled timestamp gives the same whatever events follow, until a clean passes it
 --     bound              an indexed key has a committed put, or a put in progress that made the entry: no operation that ended binds a key
---     never-put          so a key that no put in progress or committed is on has no index entry
---     committed-key      a committed operation's key is one of the table's, so that the history's listing, which goes through these, leaves no key out
---     instant-completed  the instant of a committed operation is completed in its file group, the slice dropped or not
---     slice-stays        what its write step stored stays the same, whatever events follow
---     slice-in-table     the table has what a committed operation's write step stored at the operation's file group and timestamp, if the slice is the
+--     never_put          so a key that no put in progress or committed is on has no index entry
+--     committed_key      a committed operation's key is one of the table's, so that the history's listing, which goes through these, leaves no key out
+--     instant_completed  the instant of a committed operation is completed in its file group, the slice dropped or not
+--     slice_stays        what its write step stored stays the same, whatever events follow
+--     slice_in_table     the table has what a committed operation's write step stored at the operation's file group and timestamp, if the slice is the
 --                        newest of its group at or below the horizon, or above that
 -- Of the horizon:
---     horizon-stays      no step changes it
---     horizon-rises      no list of events makes it fall
---     steps-horizon      with no clean it is 0, so that demand 3 is about every timestamp
+--     horizon_stays      no step changes it
+--     horizon_rises      no list of events makes it fall
+--     steps_horizon      with no clean it is 0, so that demand 3 is about every timestamp
 use Prim.Native.Nat.{ℕ, ◌*◌, ◌≤◌, ◌<◌}
 use mathlib.Core.Path.{◌≡◌, refl, sym, ap, ◌∙◌}
 use mathlib.Core.Logic.{◌≢◌}

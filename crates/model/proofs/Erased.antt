@@ -1,6 +1,6 @@
 -- The erased word is never put (document 02, Q-3): after any list of events from a fresh table of either mode,
---     never-erased    no operation in progress, and no committed one, is a put of the erased word
---     never-listed    no row at any timestamp at or above the horizon, and so no row of a scan, has it as its value
+--     never_erased    no operation in progress, and no committed one, is a put of the erased word
+--     never_listed    no row at any timestamp at or above the horizon, and so no row of a scan, has it as its value
 use Prim.Native.Nat.{ℕ, ◌≤◌}
 use mathlib.Core.Path.{◌≡◌, refl, subst⁻¹, ap, ◌∙◌}
 use mathlib.Core.Logic.{◌≢◌}

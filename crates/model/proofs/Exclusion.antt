@@ -1,15 +1,15 @@
 -- What follows for locks and modes after any list of events from a fresh table.
---     mode-stays                    the table has the mode that it was made with
---     guard-excludes                while a writer holds the lock that guards a file group, no other writer's step changes what a scan shows of the group
---     lock-excludes                 so in an optimistic table, while a writer holds the table lock, no other writer's step changes any row
---     abort-frees                   an abort by the holder of a lock frees it
---     table-locked-by               where 16 is given, another writer is past the index step
---     group-locked-by               where 19 is given, another writer in the same file group is past the read step
---     groups-apart                  in a pessimistic table two writers past the read step have different file groups
---     never-to-check                no writer comes to phase 5 there
---     never-changed                 and no step is answered 5
---     never-checked                 and a check step, by any writer that exists, is answered 14
---     base-never-needed             and no clean is refused with 33, since nothing is completed in a file group while a writer holds its lock
+--     mode_stays                    the table has the mode that it was made with
+--     guard_excludes                while a writer holds the lock that guards a file group, no other writer's step changes what a scan shows of the group
+--     lock_excludes                 so in an optimistic table, while a writer holds the table lock, no other writer's step changes any row
+--     abort_frees                   an abort by the holder of a lock frees it
+--     table_locked_by               where 16 is given, another writer is past the index step
+--     group_locked_by               where 19 is given, another writer in the same file group is past the read step
+--     groups_apart                  in a pessimistic table two writers past the read step have different file groups
+--     never_to_check                no writer comes to phase 5 there
+--     never_changed                 and no step is answered 5
+--     never_checked                 and a check step, by any writer that exists, is answered 14
+--     base_never_needed             and no clean is refused with 33, since nothing is completed in a file group while a writer holds its lock
 use Prim.Native.Nat.{ℕ, suc, zero, ◌+◌, ◌<◌}
 use mathlib.Core.Path.{◌≡◌, refl, sym, ap, ◌∙◌}
 use mathlib.Core.Logic.{◌≢◌}

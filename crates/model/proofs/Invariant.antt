@@ -2,9 +2,9 @@
 -- A writer's facts (`WriterFacts`) grow with its phase. What the write step of a completed slice stored is what the
 -- committed operations of its file group left there; what that of another one stored is the same at its base, changed
 -- at one key. The table has what was stored wherever no clean has dropped it.
---     one-guarded, one-past    two writers that have the lock of one file group, or are past the index step on one
+--     one_guarded, one_past    two writers that have the lock of one file group, or are past the index step on one
 --                              key, are one
---     pending-key              an operation in progress is on its writer's key
+--     pending_key              an operation in progress is on its writer's key
 use Prim.Native.Nat.{ℕ, ◌+◌, ◌≤◌, ◌<◌}
 use mathlib.Core.Path.{◌≡◌, ap, ◌∙◌}
 use mathlib.Core.Logic.{◌≢◌}

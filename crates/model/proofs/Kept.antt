@@ -1,9 +1,9 @@
 -- What a change keeps (`SharedKept`, `OtherKept`), and the whole invariant from it (`Kept`).
 --     unchanged    the first, for a change that completes and commits nothing
 --     untouched    the second, for one that leaves the locks, the index and what is stored as well
---     other-facts, committed-kept, rows-kept, slice_kept    carry over the facts of the other writers, of committed
+--     other_facts, committed_kept, rows_kept, slice_kept    carry over the facts of the other writers, of committed
 --                  operations and of completed slices
---     writer-facts, timestamps-unique    put the writers together, for a move, which changes one of them (`Moved`)
+--     writer_facts, timestamps_unique    put the writers together, for a move, which changes one of them (`Moved`)
 --     uncommitted  is the whole, for a move that commits nothing
 use Prim.Native.Nat.{ℕ, ◌+◌, ◌≤◌, ◌<◌}
 use mathlib.Core.Path.{◌≡◌, refl, sym, subst⁻¹, ap, ◌∙◌}

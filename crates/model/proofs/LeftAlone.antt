@@ -3,8 +3,8 @@
 --                         committed key or of another writer past the index step, and no other writer's lock; `facts`
 --                         are what is left to show of the writer itself
 --     unshared            the same, for a step that changes only the writer's record and the locks
---     same-locks, others-locks, own-lock, only-lock    the locks, where none is taken, and where one may be
---     still, all-below, unmade    bound keys, the newest completed timestamp, and entries before the index step
+--     same_locks, others_locks, own_lock_lem, only_lock    the locks, where none is taken, and where one may be
+--     still, all_below, unmade    bound keys, the newest completed timestamp, and entries before the index step
 use Prim.Native.Nat.{ℕ, ◌+◌, ◌≤◌, ◌<◌}
 use mathlib.Core.Path.{◌≡◌, refl, ◌∙◌}
 use mathlib.Core.Logic.{◌≢◌}

@@ -1,8 +1,8 @@
 -- The locks of a table as a function of their places.
---     freed-at                      where a writer frees its locks, each is released
---     released-other, released-own  a released lock is another writer's as before, and not its own
---     taken-other, taken_own        the same of a step that takes a lock which no other writer holds, or takes none
---     taken-holds                   which locks a writer holds after such a step
+--     freed_at                      where a writer frees its locks, each is released
+--     released_other, released_own  a released lock is another writer's as before, and not its own
+--     taken_other, taken_own        the same of a step that takes a lock which no other writer holds, or takes none
+--     taken_holds                   which locks a writer holds after such a step
 use Prim.Native.Nat.{ℕ, zero, suc, ◌+◌}
 use mathlib.Core.Path.{◌≡◌, refl, sym, ◌∙◌}
 use mathlib.Core.Logic.{◌≢◌}

@@ -1,8 +1,8 @@
 -- What the proofs use of the two modes; no other law about the table goes by cases of the mode.
---     modes-differ                           they are two
---     lock-phase, locks-late, locks-early    the phase at which the lock is taken
---     after-index, may-check                 where the index step leads, and when a check step is taken
---     guard-fits, guard-own                  which lock guards a file group
+--     modes_differ                           they are two
+--     lock_phase_lem, locks_late, locks_early    the phase at which the lock is taken
+--     after_index_lem, may_check_lem         where the index step leads, and when a check step is taken
+--     guard_fits, guard_own                  which lock guards a file group
 use Prim.Native.Nat.{ℕ, ◌≤◌, ◌<◌}
 use mathlib.Core.Path.{◌≡◌, refl, sym, ap}
 use mathlib.Core.Logic.{◌≢◌}

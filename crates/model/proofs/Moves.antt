@@ -1,6 +1,6 @@
 -- What the theorems see of a table and its history, with functions in place of lists, and what an event makes of it.
---     View, NotesView    what is seen, and the notes in it: startViewed, endViewed, completionViewed
---     after..            the view afterStart, afterPhase, after_end, afterCommit, afterClean
+--     View, NotesView    what is seen, and the notes in it: start_viewed, end_viewed, completion_viewed
+--     after..            the view after_start, after_phase, after_end, after_commit, after_clean
 --     NextPhase          what a step to the next phase asks, and what it changes
 --     Move               what a step of a writer makes of a view
 --     Cleaned            what a clean leaves alone: slices that are kept (KeptAt), and bases about to be copied

@@ -1,14 +1,14 @@
 -- The newest of the committed operations that a test picks.
---     newest-ind      it is none, or one of them
---     newest-skip     one that the test does not pick does not count
---     newest-first    one above all others picked is the newest
---     newest-agree    two tests that agree on the list pick the same
+--     newest_ind      it is none, or one of them
+--     newest_skip     one that the test does not pick does not count
+--     newest_first    one above all others picked is the newest
+--     newest_agree    two tests that agree on the list pick the same
 -- `left` is what the newest one of a file group on a key left there, which are the rows of the group's slices:
---     left-skip       one of another group, or above t, changes nothing at t
---     left-between    timestamps with none of the group change nothing
---     left-last       one above all others of the group changes its own key alone
---     left-hidden     a group with none on the key has nothing there
---     left-shown      the group of all on the key has what the newest of all left
+--     left_skip       one of another group, or above t, changes nothing at t
+--     left_between    timestamps with none of the group change nothing
+--     left_last       one above all others of the group changes its own key alone
+--     left_hidden     a group with none on the key has nothing there
+--     left_shown      the group of all on the key has what the newest of all left
 use Prim.Native.Nat.{ℕ, ◌≤◌, ◌<◌}
 use mathlib.Core.Path.{◌≡◌, refl, sym, ap, ◌∙◌, fun_ext}
 use mathlib.Core.Bool.{Bool, true, false, ◌&&◌}

@@ -1,11 +1,11 @@
 -- The laws of what is noted for the candidates of a commit.
 --     count_same, count_next, count_most   completed instants, counted: one set to another that is completed or not as before, one completed, and at most
 --                                          so many; `others_most`, one fewer besides one of them
---     count-others                         the others of a timestamp, where its own instant was not completed; `uncompleted_at`, where it was not
---     row-ind, row-noted                   a writer's row set: what holds of every noted timestamp, and who has noted what
---     timestamp-set                        a number set in a list with one for each timestamp
---     notes-past, notes-refused, notes-started, notes-same, notes-committed, notes-ended    what is noted after each answer
---     notes-ranged, notes-lengths          what is noted stays in range, and keeps its lengths
+--     count_others                         the others of a timestamp, where its own instant was not completed; `uncompleted_at`, where it was not
+--     row_ind, row_noted_lem               a writer's row set: what holds of every noted timestamp, and who has noted what
+--     timestamp_set                        a number set in a list with one for each timestamp
+--     notes_past, notes_refused, notes_started, notes_same, notes_committed, notes_ended    what is noted after each answer
+--     notes_ranged, notes_lengths          what is noted stays in range, and keeps its lengths
 use Prim.Native.Nat.{ℕ, zero, suc, ◌+◌, ◌-◌, ◌≤◌, ◌<◌, zero-le}
 use native.Mathlib.Nat.{le_trans}
 use native.Mathlib.Decide.{ℕ_discrete}

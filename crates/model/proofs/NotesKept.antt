@@ -1,8 +1,8 @@
 -- Every change of a view keeps what holds of the notes (`Noted`): `change_noted`, by the cases of a change.
---     start-noted     is in StartNoted.antt
---     end-noted       nothing is completed; the writer keeps neither its count nor what it has noted
---     phase-noted     nothing is completed; the base that the read step takes is the newest, so `newer` holds
---     commit-noted    its place is the next, so above every count; and every other operation in progress picks it,
+--     start_noted_lem     is in StartNoted.antt
+--     end_noted       nothing is completed; the writer keeps neither its count nor what it has noted
+--     phase_noted     nothing is completed; the base that the read step takes is the newest, so `newer` holds
+--     commit_noted    its place is the next, so above every count; and every other operation in progress picks it,
 --                     since it has noted it or started before it
 -- A clean touches neither the notes nor the timeline.
 use Prim.Native.Nat.{ℕ, ◌+◌, ◌≤◌, ◌<◌}

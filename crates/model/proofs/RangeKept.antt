@@ -1,10 +1,10 @@
 -- No table reached from a fresh one gives 17.
---     step-in-range        a step leaves a state in range in range
---     answer-in-range      a step on a state in range is not answered 17
---     fresh-in-range       a fresh state is in range
---     event-in-range       an event leaves a state in range in range
---     reached-in-range     a state reached from a fresh one is in range
---     never-out-of-range   so no step and no clean there is answered 17
+--     step_in_range        a step leaves a state in range in range
+--     answer_in_range      a step on a state in range is not answered 17
+--     fresh_in_range       a fresh state is in range
+--     event_in_range       an event leaves a state in range in range
+--     reached_in_range     a state reached from a fresh one is in range
+--     never_out_of_range   so no step and no clean there is answered 17
 use Prim.Native.Nat.{ℕ, ◌<◌, ◌≤◌}
 use native.Mathlib.Nat.{le_trans}
 use native.Mathlib.Omega.{arith}

@@ -1,6 +1,6 @@
 -- The test of answer 17 as facts about numbers.
---     writer-ranged, writer-in-range    a writer passes the test exactly if its numbers are in range
---     ranged, in-range                  and so does a state
+--     writer_ranged, writer_in_range_lem    a writer passes the test exactly if its numbers are in range
+--     ranged, in_range_lem              and so does a state
 use Prim.Native.Nat.{ℕ, zero, suc, ◌+◌, ◌-◌, ◌<◌, ◌≤◌, zero-le}
 use native.Mathlib.Omega.{arith}
 use mathlib.Core.Bool.{true, and-eq-true_iff}

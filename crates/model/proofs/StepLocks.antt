@@ -1,14 +1,14 @@
 -- What a step does to locks and modes, for any table and any step.
---     step-keeps-mode               no step changes the mode, and, by `clean_keeps_mode`, no clean
---     changed-optimistic            5 comes in an optimistic table only
---     table-locked-optimistic       and so does 16
---     group-locked-pessimistic      19 comes in a pessimistic one only
---     taken-locks                   a step that is taken changes no lock but the one that it takes, which is its
+--     step_keeps_mode               no step changes the mode, and, by `clean_keeps_mode`, no clean
+--     changed_optimistic            5 comes in an optimistic table only
+--     table_locked_optimistic       and so does 16
+--     group_locked_pessimistic      19 comes in a pessimistic one only
+--     taken_locks                   a step that is taken changes no lock but the one that it takes, which is its
 --                                   writer's then
---     ending-frees                  whoever ends or commits has no lock afterwards, and every other lock stays
---     check-refused                 in a pessimistic table in range a check step of a writer that exists is refused
+--     ending_frees                  whoever ends or commits has no lock afterwards, and every other lock stays
+--     check_refused                 in a pessimistic table in range a check step of a writer that exists is refused
 --                                   with 14, at every phase
---     read-step-refused             there a read step at phase 2 is refused with 19 where another writer holds the
+--     read_step_refused             there a read step at phase 2 is refused with 19 where another writer holds the
 --                                   lock of its file group
 use Prim.Native.Nat.{ℕ, ◌+◌, ◌≤◌, ◌<◌}
 use mathlib.Core.Path.{◌≡◌, refl}

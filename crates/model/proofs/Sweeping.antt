@@ -1,9 +1,9 @@
 -- The rows after a sweep of the slices that a clean drops, where each instant is coded.
---     dropped-below    what is dropped is completed, and below the newest of its file group at or below c
---     swept-length     the rows keep their number
---     swept-other      a row that is of no dropped slice is as it was
---     swept-own        one of a dropped slice is absent
---     swept-again      a second sweep changes nothing
+--     dropped_below    what is dropped is completed, and below the newest of its file group at or below c
+--     swept_length     the rows keep their number
+--     swept_other      a row that is of no dropped slice is as it was
+--     swept_own        one of a dropped slice is absent
+--     swept_again      a second sweep changes nothing
 use Prim.Native.Nat.{ℕ, zero, suc, ◌≤◌, ◌<◌}
 use mathlib.Core.Path.{◌≡◌, refl, sym, ◌∙◌}
 use mathlib.Core.Logic.{◌≢◌, by_cases}

@@ -1,13 +1,13 @@
 -- The candidates of a commit (document 02, Q-12), after any list of events from a fresh table of either mode.
---     candidates-agree      the two ways choose the same, and only what is committed
---     keeps-neither         a ready writer keeps no count and no timestamp
---     completion-placed     a completed instant has its place among 1, 2, .., up to the number of completed instants;
+--     candidates_agree      the two ways choose the same, and only what is committed
+--     keeps_neither         a ready writer keeps no count and no timestamp
+--     completion_placed     a completed instant has its place among 1, 2, .., up to the number of completed instants;
 --                           `places_differ`, no other has the same; `unplaced`, an instant that is not completed has
 --                           none
---     above-base            past its read step an operation has as candidates all that is completed in its file group
+--     above_base            past its read step an operation has as candidates all that is completed in its file group
 --                           above its base
---     changed-by            so where a check is answered 5, a candidate of the group is above the base
-use Prim.Native.Nat.{ℕ, zero, suc, ◌-◌, ◌≤◌, ◌<◌}
+--     changed_by            so where a check is answered 5, a candidate of the group is above the base
+use Prim.Native.Nat.{ℕ, zero, suc, ◌≤◌, ◌<◌}
 use mathlib.Core.Path.{◌≡◌, refl, sym, ap, ◌∙◌, fun_ext}
 use mathlib.Core.Logic.{◌≢◌, by_cases}
 use mathlib.Core.List.{List, Memᴰ}
