@@ -32,7 +32,7 @@ use Rattle.traces.specs.Pessimistic.{pessimistic_traces}
 use Rattle.traces.specs.Cleaning.{cleaning_traces}
 use Rattle.traces.specs.Candidates.{candidates_traces}
 
-pub traces : List Trace
+unfoldable pub traces : List Trace
 traces =
     -- numbers: P1 to P4, the second case of P4 as document 02, Q-8 has it, and numbers above P3's
     (encode 0 gives 0x00 ∷ [])
