@@ -7,7 +7,7 @@ mod rows;
 ghost use Rattle.std.specs.Prelude.{◌≡◌, Bool, List, ℕ};
 ghost use Rattle.model.specs.State.{state_of};
 ghost use Rattle.model.specs.Snapshot.{all_rows, unlisted, listed_if_fits, scan, point_read, found_numbers, instant_state, instant_at, instant_numbers};
-ghost use Rattle.model.specs.Calls.{state_before, scanned};
+ghost use Rattle.model.specs.Calls.{scanned};
 ghost use Rattle.snapshot.specs.Inner.{refusal, Slices, slice_in};
 
 use common::Word;
@@ -69,7 +69,7 @@ pub fn scan(
     at: u64,
     buffer: &mut [Word],
 ) -> Scanned
-    ensures { scanned result buffer ≡ scan (state_before t present values) at buffer.old }
+    ensures { scanned result buffer ≡ scan (state_of t present.now values.now) at buffer.old }
 {
     let locks = t.locks;
     let writers = t.writers;
@@ -91,7 +91,7 @@ pub fn scan(
 
 // The row of a key at a timestamp.
 pub fn read(t: Table, present: &[bool; ROWS], values: &[Value; ROWS], at: u64, key: Word) -> Found
-    ensures { found_numbers result ≡ found_numbers (point_read (state_before t present values) at key) }
+    ensures { found_numbers result ≡ found_numbers (point_read (state_of t present.now values.now) at key) }
 {
     let refusal = refusal_of(in_range(t), at, t.horizon);
     if refusal != TAKEN {
