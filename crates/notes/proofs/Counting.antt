@@ -1,7 +1,7 @@
 -- Completed instants, counted by a loop, and one of them taken out of the count.
---     CountTurn                what holds at each turn: count-starts, count_fits, count-goes-on, count-ends
---     others-none, others-past, others-less    the count of the others: of a timestamp that has no instant, and of one that has
---     set_past, set-slot                       a number set in a list with one for each timestamp
+--     CountTurn                what holds at each turn: count_starts, count_fits, count_goes_on, count_ends
+--     others_none, others_past, others_less    the count of the others: of a timestamp that has no instant, and of one that has
+--     set_past, set_slot                       a number set in a list with one for each timestamp
 use Prim.Native.Nat.{ℕ, zero, suc, ◌+◌, ◌-◌, ◌≤◌, ◌<◌}
 use native.Mathlib.Numerals.{add-one, sub-one}
 use native.Mathlib.Omega.{arith}

@@ -1,5 +1,5 @@
 -- The loop over a writer's row of noted timestamps.
---     RowSet      the loop that sets a row: row-starts, row-goes-on, row_ends
+--     RowSet      the loop that sets a row: row_starts, row_goes_on, row_ends
 --     row_same    two rows that agree are noted alike
 use Prim.Native.Nat.{ℕ, zero, suc, ◌+◌, ◌≤◌, ◌<◌}
 use native.Mathlib.Numerals.{add-one}

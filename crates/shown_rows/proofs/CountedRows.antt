@@ -1,7 +1,7 @@
 -- The file groups' slices counted: `Counted` is the invariant of the loop over the groups, with one law for each way round it.
 --     counted_none, counted_skip, counted_next    before the first group, past one without a slice, past one with a slice
---     counted-le     a key has no more rows than there are groups
---     counted-all    the number of all rows
+--     counted_le     a key has no more rows than there are groups
+--     counted_all    the number of all rows
 use Prim.Native.Nat.{ℕ, zero, suc, ◌+◌, ◌<◌, ◌≤◌}
 use native.Mathlib.Decide.{ℕ_discrete}
 use native.Mathlib.Numerals.{add-one}

@@ -1,7 +1,7 @@
 -- The rows of a key stored, file group by file group: `StoringOthers` is the loop's invariant, the pieces pasted so far with the rows left to store.
---     others-begin, others-inside, others-look, others-ask, others-skip, others-row, others-end    its laws
---     key-none, key-inside, key-first, key-others, key-end    the rows of a key: none, the file group of the first, the first, the others, and all
---     all-begin, all-key, all_end    the rows of key after key: the room, what each key's rows ask, and what is stored
+--     others_begin, others_inside, others_look, others_ask, others_skip, others_row, others_end    its laws
+--     key_none, key_inside, key_first, key_others, key_end    the rows of a key: none, the file group of the first, the first, the others, and all
+--     all_begin, all_key, all_end    the rows of key after key: the room, what each key's rows ask, and what is stored
 use Prim.Native.Nat.{ℕ, ◌+◌, ◌-◌, ◌*◌, ◌<◌, ◌≤◌}
 use native.Mathlib.Decide.{ℕ_discrete, dec_lt}
 use native.Mathlib.Omega.{arith}

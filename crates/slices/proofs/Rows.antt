@@ -1,7 +1,7 @@
 -- Loops that store the rows of a slice, over any type of rows.
 --     RowsCopied                 the loops' invariant
---     clear-row, copy-row    the ways round
---     all-copied                 the end
+--     clear_row, copy_row    the ways round
+--     all_copied                 the end
 use Prim.Native.Nat.{ℕ, zero, suc, ◌+◌, ◌<◌, ◌≤◌}
 use mathlib.Core.List.{List}
 use mathlib.Core.Path.{◌≡◌, refl, ◌∙◌, ap}

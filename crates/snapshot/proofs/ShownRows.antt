@@ -1,6 +1,6 @@
 -- What the file groups' slices show of a key, in rows and in numbers.
---     shown-row, shown-none, shown-place    what a group shows, and where it stands; key-count    how many groups show a key
---     numbers-below, numbers-length    the numbers of rows made by counting, and how many there are
+--     shown_row, shown_none, shown_place    what a group shows, and where it stands; key_count    how many groups show a key
+--     numbers_below, numbers_length    the numbers of rows made by counting, and how many there are
 use Prim.Native.Nat.{ℕ, zero, suc, ◌*◌, ◌<◌}
 use native.Mathlib.Omega.{arith}
 use mathlib.Core.Bool.{Bool, true, false, false≢true}

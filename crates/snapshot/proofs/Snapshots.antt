@@ -1,10 +1,10 @@
 -- The parts of a read put together: what the newest slices show is what the definitions list.
---     in-range-coded    a table in range, as the pass down the timeline asks it
---     Readable, not-refused    what a read asks that is not refused with 17 or 32
+--     in_range_coded    a table in range, as the pass down the timeline asks it
+--     Readable, not_refused    what a read asks that is not refused with 17 or 32
 --     all_fit           what storing the rows asks
 --     list_full, list_done    the rows of slices: no room, all stored
---     scan-refused, scan-listed    a scan: refused so, or the rows of the newest slices
---     read-refused, read-no-key, read_found    a point read
+--     scan_refused, scan_listed    a scan: refused so, or the rows of the newest slices
+--     read_refused, read_no_key, read_found    a point read
 use Prim.Native.Nat.{ℕ, ◌+◌, ◌*◌, ◌<◌, ◌≤◌}
 use native.Mathlib.Omega.{arith}
 use mathlib.Core.Bool.{Bool, true, false}

@@ -1,6 +1,6 @@
 -- The pass down the timeline that finds the newest slice of each file group: `Passed` is the loop's invariant, with one law for each way round it.
---     pass-none, pass-open, pass-old, pass-new, pass-end, pass-full    the laws of `Passed`
---     pass-group, pass-missing    a completed instant names a file group, and one found first is among those missing
+--     pass_none, pass_open, pass_old, pass_new, pass_end, pass_full    the laws of `Passed`
+--     pass_group, pass_missing    a completed instant names a file group, and one found first is among those missing
 use Prim.Native.Nat.{ℕ, zero, suc, ◌+◌, ◌-◌, ◌<◌, ◌≤◌, min}
 use native.Mathlib.Nat.{eq-zero-or-pos}
 use native.Mathlib.Decide.{ℕ_discrete, dec_le}
