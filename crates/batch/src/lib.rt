@@ -29,7 +29,7 @@ fn length_at(input: &[u8], at: usize) -> usize
     a + 256 * (b + 256 * (c + 256 * d))
 }
 
-fn print_log<W: Write>(out: &mut W, mode: Mode, number: u64, log: &[u8]) -> io::Result<()> {
+fn print_log(out: &mut impl Write, mode: Mode, number: u64, log: &[u8]) -> io::Result<()> {
     out.write_all(b"log ")?;
     write!(out, "{number}")?;
     out.write_all(b"\n")?;
@@ -39,7 +39,7 @@ fn print_log<W: Write>(out: &mut W, mode: Mode, number: u64, log: &[u8]) -> io::
 }
 
 // Prints each whole log, with its number.
-fn print_logs<W: Write>(out: &mut W, mode: Mode, input: &[u8]) -> io::Result<()> {
+fn print_logs(out: &mut impl Write, mode: Mode, input: &[u8]) -> io::Result<()> {
     let mut number: u64 = 0;
     let mut at: usize = 0;
     while 4 <= input.len() - at {
@@ -57,9 +57,9 @@ fn print_logs<W: Write>(out: &mut W, mode: Mode, input: &[u8]) -> io::Result<()>
 }
 
 // Prints the transcript of each log that a reader gives, run on a fresh table of a mode.
-pub fn print_transcripts<W: Write, R: Read>(
-    out: &mut W,
-    reader: &mut R,
+pub fn print_transcripts(
+    out: &mut impl Write,
+    reader: &mut impl Read,
     mode: Mode,
 ) -> io::Result<()> {
     let mut input = [0u8; MAX_INPUT];

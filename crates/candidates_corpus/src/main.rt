@@ -1,6 +1,11 @@
 // Runs logs with cleans between their steps, and prints the candidate instants of the writers.
 #![tactic(auto)]
 
-fn main() {
-    cases::take_input();
+use std::io;
+use std::io::{BufWriter, Write};
+
+fn main(rt: HostRuntime) -> io::Result<()> {
+    let mut out = BufWriter::new(rt.alloc(), io::writer(&rt))?;
+    cases::take_input(&mut out, &mut rt.stdin())?;
+    out.flush()
 }

@@ -7,6 +7,8 @@ use leb128::Decoded;
 use model::limits::ROWS;
 use model::{Mode, Table, Value};
 use scripts::{choose, clean, piece};
+use std::io;
+use std::io::Write;
 
 // The kinds but for 0, a fresh optimistic table.
 const PESSIMISTIC: u8 = 1;
@@ -99,84 +101,97 @@ fn item_at(input: &[u8], at: usize) -> Item
 
 // A fresh table for a case.
 fn begin(
+    out: &mut impl Write,
     mode: Mode,
     present: &mut [bool; ROWS],
     values: &mut [Value; ROWS],
     number: Word,
-) -> Table {
-    report::text(b"== case");
-    report::number(number);
-    report::text(b"\n");
-    table::fresh(mode, present, values)
+) -> io::Result<Table> {
+    report::text(out, b"== case")?;
+    report::number(out, number)?;
+    report::text(out, b"\n")?;
+    Ok(table::fresh(mode, present, values))
 }
 
 // The candidate instants of a writer.
-fn choose_one(t: Table, writer: Word) {
-    choose(t, b"", writer);
+fn choose_one(out: &mut impl Write, t: Table, writer: Word) -> io::Result<()> {
+    choose(out, t, b"", writer)
 }
 
 // Those of each writer below a number.
-fn choose_each(t: Table, writers: Word) {
+fn choose_each(out: &mut impl Write, t: Table, writers: Word) -> io::Result<()> {
     for writer in 0..writers {
-        choose_one(t, writer);
+        choose_one(out, t, writer)?;
     }
+    Ok(())
 }
 
 // Tries the calls on a table, as an item of a kind from TRY_LOG on says.
 fn try_calls(
+    out: &mut impl Write,
     t: Table,
     present: &[bool; ROWS],
     values: &[Value; ROWS],
     kind: u8,
     number: Word,
     bytes: &[u8],
-) {
+) -> io::Result<()> {
     match kind {
-        TRY_LOG => trials::log_tried(t, present, values, bytes),
-        TRY_CLEAN => trials::clean_tried(t, present, values, number),
-        TRY_READ => trials::read_tried(t, present, values, bytes),
-        TRY_SCAN => trials::scan_tried(t, present, values, bytes),
-        _ => {}
+        TRY_LOG => trials::log_tried(out, t, present, values, bytes),
+        TRY_CLEAN => trials::clean_tried(out, t, present, values, number),
+        TRY_READ => trials::read_tried(out, t, present, values, bytes),
+        TRY_SCAN => trials::scan_tried(out, t, present, values, bytes),
+        _ => Ok(()),
     }
 }
 
 // Asks the calls on a table, as an item of a kind from SHOW to NOTED_NUMBERS says.
-fn ask(t: Table, present: &mut [bool; ROWS], values: &mut [Value; ROWS], kind: u8, number: Word) {
+fn ask(
+    out: &mut impl Write,
+    t: Table,
+    present: &mut [bool; ROWS],
+    values: &mut [Value; ROWS],
+    kind: u8,
+    number: Word,
+) -> io::Result<()> {
     if kind == SHOW {
-        show(t, present, values, number, t.last as u64 + 1);
+        show(out, t, present, values, number, t.last as u64 + 1)?;
     }
     if kind == CHOOSE_EACH {
-        choose_each(t, number);
+        choose_each(out, t, number)?;
     }
     if kind == CHOOSE {
-        choose_one(t, number);
+        choose_one(out, t, number)?;
     }
     if kind == NOTED_NUMBERS {
-        report::noted(t);
+        report::noted(out, t)?;
     }
+    Ok(())
 }
 
 // Takes an item on a table, and gives the table then.
 fn take(
+    out: &mut impl Write,
     t: Table,
     present: &mut [bool; ROWS],
     values: &mut [Value; ROWS],
     kind: u8,
     number: Word,
     bytes: &[u8],
-) -> Table {
+) -> io::Result<Table> {
     if kind < PESSIMISTIC {
-        return begin(Mode::Optimistic, present, values, number);
+        return begin(out, Mode::Optimistic, present, values, number);
     }
     if kind == PESSIMISTIC {
-        return begin(Mode::Pessimistic, present, values, number);
+        return begin(out, Mode::Pessimistic, present, values, number);
     }
     if kind == CLEAN {
-        return clean(t, present, number);
+        return clean(out, t, present, number);
     }
     // No timestamp is read: other items ask for that.
     if kind < CLEAN {
         return piece(
+            out,
             t,
             present,
             values,
@@ -188,15 +203,21 @@ fn take(
         );
     }
     if kind == SET {
-        return trials::set(t, present, values, bytes);
+        return Ok(trials::set(t, present, values, bytes));
     }
-    ask(t, present, values, kind, number);
-    try_calls(t, present, values, kind, number, bytes);
-    t
+    ask(out, t, present, values, kind, number)?;
+    try_calls(out, t, present, values, kind, number, bytes)?;
+    Ok(t)
 }
 
 // Takes each item on the table that the last one left.
-pub fn take_each(t: Table, present: &mut [bool; ROWS], values: &mut [Value; ROWS], input: &[u8]) {
+pub fn take_each(
+    out: &mut impl Write,
+    t: Table,
+    present: &mut [bool; ROWS],
+    values: &mut [Value; ROWS],
+    input: &[u8],
+) -> io::Result<()> {
     let mut t = t;
     let mut at: usize = 0;
     while at < input.len() {
@@ -204,13 +225,15 @@ pub fn take_each(t: Table, present: &mut [bool; ROWS], values: &mut [Value; ROWS
         let from = item.bytes;
         let next = item.next;
         t = take(
+            out,
             t,
             present,
             values,
             item.kind,
             item.number,
             &input[from..next],
-        );
+        )?;
         at = next;
     }
+    Ok(())
 }

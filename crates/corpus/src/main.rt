@@ -3,7 +3,10 @@
 
 use model::Mode;
 use std::io;
+use std::io::{BufWriter, Write};
 
 fn main(rt: HostRuntime) -> io::Result<()> {
-    batch::print_transcripts(&mut rt.stdout(), &mut rt.stdin(), Mode::Optimistic)
+    let mut out = BufWriter::new(rt.alloc(), io::writer(&rt))?;
+    batch::print_transcripts(&mut out, &mut rt.stdin(), Mode::Optimistic)?;
+    out.flush()
 }

@@ -8,6 +8,8 @@ ghost use Rattle.encoding.specs.Steps.{put_and_look_up};
 use common::Word;
 use logwriter::Written;
 use model::{Action, Operation, Step};
+use std::io;
+use std::io::{BufWriter, Write};
 
 // The largest number.
 const LARGEST: Word = 18446744073709551615;
@@ -39,45 +41,62 @@ fn write_two(buffer: &mut [u8], at: usize) -> Written
     logwriter::write_log(&steps, buffer, at)
 }
 
-fn write_printed(label: &[u8], at: usize) {
+fn write_printed(out: &mut impl Write, label: &[u8], at: usize) -> io::Result<()> {
     let mut buffer = [255u8; 12];
     let written = write_two(&mut buffer, at);
-    report::written(label, written.answer, written.count, &buffer);
+    report::written(out, label, written.answer, written.count, &buffer)
 }
 
 // Eight bytes into a buffer of twelve: past its end, at its end, one byte short of a fit, an exact fit, and with a byte to spare.
-fn log_writer() {
-    report::title(b"The log writer");
-    write_printed(b"place 13 of 12", 13);
-    write_printed(b"place 12 of 12", 12);
-    write_printed(b"place 5 of 12", 5);
-    write_printed(b"place 4 of 12", 4);
-    write_printed(b"place 3 of 12", 3);
+fn log_writer(out: &mut impl Write) -> io::Result<()> {
+    report::title(out, b"The log writer")?;
+    write_printed(out, b"place 13 of 12", 13)?;
+    write_printed(out, b"place 12 of 12", 12)?;
+    write_printed(out, b"place 5 of 12", 5)?;
+    write_printed(out, b"place 4 of 12", 4)?;
+    write_printed(out, b"place 3 of 12", 3)
 }
 
 // A number into a buffer; the number writer has no answer number but its size, 0 where the code does not fit.
-fn encode_printed(label: &[u8], number: Word, buffer: &mut [u8]) {
+fn encode_printed(
+    out: &mut impl Write,
+    label: &[u8],
+    number: Word,
+    buffer: &mut [u8],
+) -> io::Result<()> {
     let size = leb128::encode(number, buffer);
-    report::written(label, 0, size, buffer);
+    report::written(out, label, 0, size, buffer)
 }
 
 // Into buffers that are one byte short of the code, that fit exactly, and with a byte to spare.
-fn number_writer() {
-    report::title(b"The number writer");
-    encode_printed(b"0 into 0", 0, &mut [255; 0]);
-    encode_printed(b"0 into 1", 0, &mut [255; 1]);
-    encode_printed(b"300 into 1", 300, &mut [255; 1]);
-    encode_printed(b"300 into 2", 300, &mut [255; 2]);
-    encode_printed(b"4294967295 into 4", 4294967295, &mut [255; 4]);
-    encode_printed(b"4294967295 into 5", 4294967295, &mut [255; 5]);
-    encode_printed(b"4294967296 into 4", 4294967296, &mut [255; 4]);
-    encode_printed(b"4294967296 into 5", 4294967296, &mut [255; 5]);
-    encode_printed(b"18446744073709551615 into 9", LARGEST, &mut [255; 9]);
-    encode_printed(b"18446744073709551615 into 10", LARGEST, &mut [255; 10]);
-    encode_printed(b"18446744073709551615 into 11", LARGEST, &mut [255; 11]);
+fn number_writer(out: &mut impl Write) -> io::Result<()> {
+    report::title(out, b"The number writer")?;
+    encode_printed(out, b"0 into 0", 0, &mut [255; 0])?;
+    encode_printed(out, b"0 into 1", 0, &mut [255; 1])?;
+    encode_printed(out, b"300 into 1", 300, &mut [255; 1])?;
+    encode_printed(out, b"300 into 2", 300, &mut [255; 2])?;
+    encode_printed(out, b"4294967295 into 4", 4294967295, &mut [255; 4])?;
+    encode_printed(out, b"4294967295 into 5", 4294967295, &mut [255; 5])?;
+    encode_printed(out, b"4294967296 into 4", 4294967296, &mut [255; 4])?;
+    encode_printed(out, b"4294967296 into 5", 4294967296, &mut [255; 5])?;
+    encode_printed(out, b"18446744073709551615 into 9", LARGEST, &mut [255; 9])?;
+    encode_printed(
+        out,
+        b"18446744073709551615 into 10",
+        LARGEST,
+        &mut [255; 10],
+    )?;
+    encode_printed(
+        out,
+        b"18446744073709551615 into 11",
+        LARGEST,
+        &mut [255; 11],
+    )
 }
 
-fn main() {
-    log_writer();
-    number_writer();
+fn main(rt: HostRuntime) -> io::Result<()> {
+    let mut out = BufWriter::new(rt.alloc(), io::writer(&rt))?;
+    log_writer(&mut out)?;
+    number_writer(&mut out)?;
+    out.flush()
 }

@@ -7,7 +7,7 @@ use std::io;
 use std::io::Read;
 
 // Reads until the buffer is full or the input ends, and gives how many bytes stand at the start of the buffer.
-pub fn read_full<R: Read>(input: &mut R, buffer: &mut [u8]) -> io::Result<usize>
+pub fn read_full(input: &mut impl Read, buffer: &mut [u8]) -> io::Result<usize>
     ensures { IfOk result (λ n. n ≤ length buffer.new) }
 {
     let mut size: usize = 0;

@@ -5,9 +5,9 @@ mod five;
 mod print;
 
 use std::io;
-use std::io::Write;
+use std::io::{BufWriter, Write};
 
-fn read<W: Write>(out: &mut W, title: &[u8], log: &[u8]) -> io::Result<()> {
+fn read(out: &mut impl Write, title: &[u8], log: &[u8]) -> io::Result<()> {
     print::title(out, title)?;
     let found = five::read_five(log);
     let first = found.first;
@@ -24,25 +24,25 @@ fn read<W: Write>(out: &mut W, title: &[u8], log: &[u8]) -> io::Result<()> {
 }
 
 fn main(rt: HostRuntime) -> io::Result<()> {
-    let out = &mut rt.stdout();
+    let mut out = BufWriter::new(rt.alloc(), io::writer(&rt))?;
     read(
-        out,
+        &mut out,
         b"A put, a look up, and a record of kind 10",
         b"\x00\x01\x01\xAC\x02\x02\x00\x03\x00\x0A\x00\x03",
     )?;
     read(
-        out,
+        &mut out,
         b"A remove, a give up and a commit, to the log's end",
         b"\x07\x02\x63\x00\x09\x0A\x08",
     )?;
     read(
-        out,
+        &mut out,
         b"A read, and a put that is cut short",
         b"\x00\x04\x00\x01\x63",
     )?;
-    read(out, b"A writer longer than needed", b"\x80\x00\x03")?;
+    read(&mut out, b"A writer longer than needed", b"\x80\x00\x03")?;
     read(
-        out,
+        &mut out,
         b"The longest record, and 40 bytes of another",
         b"\
         \xFF\xFF\xFF\xFF\xFF\xFF\xFF\xFF\xFF\x01\x01\
@@ -54,5 +54,6 @@ fn main(rt: HostRuntime) -> io::Result<()> {
         \xFF\xFF\xFF\xFF\xFF\xFF\xFF\xFF\xFF\x01\
         \xFF\xFF\xFF\xFF\xFF\xFF\xFF\xFF\xFF",
     )?;
-    read(out, b"No records", b"")
+    read(&mut out, b"No records", b"")?;
+    out.flush()
 }

@@ -5,27 +5,27 @@ use std::io;
 use std::io::Write;
 use steplog::Record;
 
-fn text<W: Write>(out: &mut W, s: &[u8]) -> io::Result<()> {
+fn text(out: &mut impl Write, s: &[u8]) -> io::Result<()> {
     out.write_all(s)
 }
 
-fn number<W: Write>(out: &mut W, n: u64) -> io::Result<()> {
+fn number(out: &mut impl Write, n: u64) -> io::Result<()> {
     write!(out, "{n}")
 }
 
 // A word of a line, and the number behind it.
-fn field<W: Write>(out: &mut W, word: &[u8], n: Word) -> io::Result<()> {
+fn field(out: &mut impl Write, word: &[u8], n: Word) -> io::Result<()> {
     text(out, word)?;
     number(out, n)
 }
 
-pub fn title<W: Write>(out: &mut W, s: &[u8]) -> io::Result<()> {
+pub fn title(out: &mut impl Write, s: &[u8]) -> io::Result<()> {
     text(out, b"== ")?;
     text(out, s)?;
     text(out, b"\n")
 }
 
-fn operation<W: Write>(out: &mut W, started: Operation) -> io::Result<()> {
+fn operation(out: &mut impl Write, started: Operation) -> io::Result<()> {
     match started {
         Operation::Put { key, value, group } => {
             field(out, b" put ", key)?;
@@ -36,7 +36,7 @@ fn operation<W: Write>(out: &mut W, started: Operation) -> io::Result<()> {
     }
 }
 
-fn action<W: Write>(out: &mut W, done: Action) -> io::Result<()> {
+fn action(out: &mut impl Write, done: Action) -> io::Result<()> {
     match done {
         Action::Start(started) => operation(out, started),
         Action::LookUp => text(out, b" look up"),
@@ -50,7 +50,7 @@ fn action<W: Write>(out: &mut W, done: Action) -> io::Result<()> {
 }
 
 // A step and the place behind its record, or the stop.
-pub fn record<W: Write>(out: &mut W, found: Record) -> io::Result<()> {
+pub fn record(out: &mut impl Write, found: Record) -> io::Result<()> {
     match found {
         Record::Taken { step, next } => {
             let writer = step.writer;
@@ -69,7 +69,7 @@ pub fn record<W: Write>(out: &mut W, found: Record) -> io::Result<()> {
 }
 
 // Where the reader stands.
-pub fn place<W: Write>(out: &mut W, at: usize) -> io::Result<()> {
+pub fn place(out: &mut impl Write, at: usize) -> io::Result<()> {
     text(out, b"reader at ")?;
     number(out, at as u64)?;
     text(out, b"\n")

@@ -19,7 +19,7 @@ enum Input {
 }
 
 // One read, which may give any part of what is to come; 0 bytes at the end of the input.
-fn read_some<R: Read>(input: &mut R, buffer: &mut [u8]) -> Input
+fn read_some(input: &mut impl Read, buffer: &mut [u8]) -> Input
     ensures { within result buffer.new }
 {
     match input.read(buffer) {
@@ -29,7 +29,7 @@ fn read_some<R: Read>(input: &mut R, buffer: &mut [u8]) -> Input
 }
 
 // Reads until the buffer is full or the input ends.
-fn read_input<R: Read>(input: &mut R, buffer: &mut [u8]) -> Input
+fn read_input(input: &mut impl Read, buffer: &mut [u8]) -> Input
     ensures { within result buffer.new }
 {
     let mut size: usize = 0;

@@ -12,7 +12,7 @@ use leb128::Decoded;
 use model::limits::{KEYS, ROWS};
 use model::{Mode, Value};
 use std::io;
-use std::io::Write;
+use std::io::{BufWriter, Write};
 
 // Room for the input.
 const MAX_INPUT: usize = 4096;
@@ -38,8 +38,8 @@ fn behind(end: usize, at: usize, size: usize) -> usize
 }
 
 // Runs a log on a fresh optimistic table, STEPS records at a time, with a scan at the last timestamp issued after each.
-fn pass<W: Write>(
-    out: &mut W,
+fn pass(
+    out: &mut impl Write,
     log: &[u8],
     present: &mut [bool; ROWS],
     values: &mut [Value; ROWS],
@@ -61,7 +61,7 @@ fn pass<W: Write>(
     Ok(())
 }
 
-fn passes<W: Write>(out: &mut W, times: Word, log: &[u8]) -> io::Result<()> {
+fn passes(out: &mut impl Write, times: Word, log: &[u8]) -> io::Result<()> {
     let mut present = [false; ROWS];
     let mut values: [Value; ROWS] = [0; ROWS];
     for _ in 1..times {
@@ -71,7 +71,7 @@ fn passes<W: Write>(out: &mut W, times: Word, log: &[u8]) -> io::Result<()> {
 }
 
 // The number of passes, and the log behind it.
-fn run_input<W: Write>(out: &mut W, input: &[u8]) -> io::Result<()> {
+fn run_input(out: &mut impl Write, input: &[u8]) -> io::Result<()> {
     let first = leb128::decode(input, 0);
     let Decoded::Number { value, next } = first else {
         return Ok(());
@@ -85,5 +85,7 @@ fn run_input<W: Write>(out: &mut W, input: &[u8]) -> io::Result<()> {
 fn main(rt: HostRuntime) -> io::Result<()> {
     let mut buffer = [0u8; MAX_INPUT];
     let size = input::read_full(&mut rt.stdin(), &mut buffer)?;
-    run_input(&mut rt.stdout(), &buffer[..size])
+    let mut out = BufWriter::new(rt.alloc(), io::writer(&rt))?;
+    run_input(&mut out, &buffer[..size])?;
+    out.flush()
 }

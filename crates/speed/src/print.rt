@@ -4,17 +4,17 @@ use std::io;
 use std::io::Write;
 
 // A number, and the byte behind it.
-fn field<W: Write>(out: &mut W, number: u64, end: &[u8]) -> io::Result<()> {
+fn field(out: &mut impl Write, number: u64, end: &[u8]) -> io::Result<()> {
     write!(out, "{number}")?;
     out.write_all(end)
 }
 
-fn answer<W: Write>(out: &mut W, number: u8) -> io::Result<()> {
+fn answer(out: &mut impl Write, number: u8) -> io::Result<()> {
     field(out, number as u64, b"\n")
 }
 
 // The first answers of a buffer.
-fn answers<W: Write>(out: &mut W, buffer: &[u8], count: usize) -> io::Result<()> {
+fn answers(out: &mut impl Write, buffer: &[u8], count: usize) -> io::Result<()> {
     let mut i: usize = 0;
     while i < buffer.len() && i < count {
         answer(out, buffer[i])?;
@@ -24,7 +24,7 @@ fn answers<W: Write>(out: &mut W, buffer: &[u8], count: usize) -> io::Result<()>
 }
 
 // A number of a row, at its place among the row's three.
-fn column<W: Write>(out: &mut W, place: usize, number: Word) -> io::Result<()> {
+fn column(out: &mut impl Write, place: usize, number: Word) -> io::Result<()> {
     if place < 2 {
         field(out, number, b" ")
     } else {
@@ -33,7 +33,7 @@ fn column<W: Write>(out: &mut W, place: usize, number: Word) -> io::Result<()> {
 }
 
 // The first rows of a buffer.
-fn rows<W: Write>(out: &mut W, buffer: &[Word], count: usize) -> io::Result<()> {
+fn rows(out: &mut impl Write, buffer: &[Word], count: usize) -> io::Result<()> {
     let mut i: usize = 0;
     while i < buffer.len() && i / 3 < count {
         column(out, i % 3, buffer[i])?;
@@ -43,8 +43,8 @@ fn rows<W: Write>(out: &mut W, buffer: &[Word], count: usize) -> io::Result<()> 
 }
 
 // The answers of an operation, and the rows of the scan after it.
-pub fn operation<W: Write>(
-    out: &mut W,
+pub fn operation(
+    out: &mut impl Write,
     answered: &[u8],
     count: usize,
     listed: &[Word],

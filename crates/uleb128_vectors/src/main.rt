@@ -5,19 +5,19 @@
 use common::Word;
 use leb128::Decoded;
 use std::io;
-use std::io::Write;
+use std::io::{BufWriter, Write};
 
 // Room for the whole input.
 const MAX_INPUT: usize = 4096;
 
-fn print_bytes<W: Write>(out: &mut W, bytes: &[u8]) -> io::Result<()> {
+fn print_bytes(out: &mut impl Write, bytes: &[u8]) -> io::Result<()> {
     for byte in bytes {
         write!(out, "{byte:02x}")?;
     }
     Ok(())
 }
 
-fn print_number<W: Write>(out: &mut W, number: Word) -> io::Result<()> {
+fn print_number(out: &mut impl Write, number: Word) -> io::Result<()> {
     let mut buffer = [0u8; 16];
     let size = leb128::encode(number, &mut buffer);
     write!(out, "{number}")?;
@@ -26,7 +26,7 @@ fn print_number<W: Write>(out: &mut W, number: Word) -> io::Result<()> {
     out.write_all(b"\n")
 }
 
-fn print_stop<W: Write>(out: &mut W, stop: u8, at: usize) -> io::Result<()> {
+fn print_stop(out: &mut impl Write, stop: u8, at: usize) -> io::Result<()> {
     out.write_all(b"stop ")?;
     write!(out, "{stop}")?;
     out.write_all(b" at ")?;
@@ -35,7 +35,7 @@ fn print_stop<W: Write>(out: &mut W, stop: u8, at: usize) -> io::Result<()> {
 }
 
 // The numbers of some bytes, one behind the other.
-fn print_numbers<W: Write>(out: &mut W, bytes: &[u8]) -> io::Result<()> {
+fn print_numbers(out: &mut impl Write, bytes: &[u8]) -> io::Result<()> {
     let mut at = 0;
     while at < bytes.len() {
         match leb128::decode(bytes, at) {
@@ -54,5 +54,7 @@ fn print_numbers<W: Write>(out: &mut W, bytes: &[u8]) -> io::Result<()> {
 fn main(rt: HostRuntime) -> io::Result<()> {
     let mut buffer = [0u8; MAX_INPUT];
     let size = input::read_full(&mut rt.stdin(), &mut buffer)?;
-    print_numbers(&mut rt.stdout(), &buffer[..size])
+    let mut out = BufWriter::new(rt.alloc(), io::writer(&rt))?;
+    print_numbers(&mut out, &buffer[..size])?;
+    out.flush()
 }
