@@ -94,7 +94,7 @@ fn cell(out: &mut impl Write, at: usize, n: Value) -> io::Result<()> {
 }
 
 // The first rows of a buffer.
-fn rows(out: &mut impl Write, buffer: &[Value], count: usize) -> io::Result<()> {
+pub fn rows(out: &mut impl Write, buffer: &[Value], count: usize) -> io::Result<()> {
     let mut at: usize = 0;
     while at < buffer.len() && at / 3 < count {
         cell(out, at, buffer[at])?;
@@ -216,7 +216,7 @@ pub fn instant(out: &mut impl Write, at: u64, state: InstantState) -> io::Result
 }
 
 // A refusal in short.
-fn short_refusal(out: &mut impl Write, answer: u8) -> io::Result<()> {
+pub fn short_refusal(out: &mut impl Write, answer: u8) -> io::Result<()> {
     marked(out, b" !", answer as u64)
 }
 
