@@ -1,7 +1,7 @@
 // The reads, the cleans and the candidate instants of a table, printed.
 ghost use Rattle.std.specs.Prelude.{◌≡◌};
+ghost use Rattle.model.specs.State.{state_of};
 ghost use Rattle.model.specs.Snapshot.{scan};
-ghost use Rattle.model.specs.Calls.{state_before};
 
 use common::Word;
 use model::limits::{KEYS, ROWS};
@@ -34,7 +34,7 @@ pub fn scan_into(
     at: u64,
     buffer: &mut [Value],
 ) -> io::Result<()>
-    ensures { buffer.new ≡ (scan (state_before t present values) at buffer.old).buffer }
+    ensures { buffer.new ≡ (scan (state_of t present.now values.now) at buffer.old).buffer }
 {
     let found = snapshot::scan(t, present, values, at, buffer);
     report::scanned(out, found, buffer)
