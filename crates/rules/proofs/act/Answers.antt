@@ -1,9 +1,11 @@
 -- `act` meets its contract: the tests have the values that the branches show, the test of the actor tells what the rules require, and the
 -- verdict of the rule is carried out.
-use mathlib.Core.Path.{refl}
+use mathlib.Core.Path.{refl, sym, ◌∙◌}
+use native.Mathlib.Omega.{arith}
 use borrow.Author.Tests.{le-leb, lt-leb}
 use Rattle.model.specs.Rules.{act}
 use Rattle.rules.specs.Parts.{act_on_parts}
+use Rattle.rules.proofs.Bounds.{actor_bounds}
 use Rattle.verdicts.proofs.Verdicts.{carries}
 use Rattle.rules.proofs.act.Goals as goal
 
@@ -20,6 +22,10 @@ unfolding act_on_parts
 returns-then-not-actor_in_range c =
     λ o.
     rw (c.if-not-tested.false, lt-leb _ _ c.if-s.false, ← c.actor_in_range.ensures, c.if-not-actor_in_range.true)
+
+pub decide-v-requires : goal.decide-v-requires
+decide-v-requires c =
+    (omega arith, actor_bounds c.args.last.now c.args.x (sym c.actor_in_range.ensures ∙ c.if-not-actor_in_range.false))
 
 pub returns : goal.returns
 unfolding act_on_parts act
