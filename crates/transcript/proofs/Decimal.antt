@@ -1,6 +1,6 @@
 -- Numbers in decimal.
---     decimal-short     a number below 10 is one digit
---     decimal-long      any other word is the digits before its last, and the last
+--     decimal_short     a number below 10 is one digit
+--     decimal_long      any other word is the digits before its last, and the last
 use mathlib.Core.Path.{◌≡◌, refl, sym, ◌∙◌}
 use mathlib.Core.List.{[], ◌∷◌, ◌++◌}
 use mathlib.Core.Logic.{by_cases}

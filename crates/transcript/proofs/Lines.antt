@@ -1,9 +1,9 @@
 -- What is put part by part, or piece by piece, is what the definitions give.
---     answers-below     the lines of the first answers are their text
---     rows-below        the lines of the numbers that a scan stores are those of its rows
---     row-pieces        the line of a row by its fields
---     stop-pieces       the line of a stop by its words and numbers
---     run-pieces        the text of a run by its parts
+--     answers_below     the lines of the first answers are their text
+--     rows_below        the lines of the numbers that a scan stores are those of its rows
+--     row_pieces        the line of a row by its fields
+--     stop_pieces       the line of a stop by its words and numbers
+--     run_pieces        the text of a run by its parts
 use mathlib.Core.Path.{◌≡◌, refl, ap, ◌∙◌}
 use mathlib.Core.List.{List, [], ◌∷◌, ◌++◌, flatten, append_assoc, append-nil}
 use Prim.Native.Nat.{ℕ, zero, suc, ◌+◌, ◌*◌, ◌≤◌, ◌<◌}

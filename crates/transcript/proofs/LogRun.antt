@@ -1,9 +1,9 @@
 -- The run of a log on a fresh table, and what is printed of it.
---     rows-of-history    the rows at any timestamp are those that the history of the steps taken lists
---     rows-within        so there is at most one of a key
---     scan-lists         and a scan with room for one of each key gives them all
---     run_fits           the text of the run has room in any buffer of maxText bytes
---     run-printed        and it is what the definition gives
+--     rows_of_history    the rows at any timestamp are those that the history of the steps taken lists
+--     rows_within        so there is at most one of a key
+--     scan_lists         and a scan with room for one of each key gives them all
+--     run_fits           the text of the run has room in any buffer of max_text bytes
+--     run_printed        and it is what the definition gives
 use Prim.Native.Nat.{ℕ, ◌*◌, ◌≤◌, zero-le}
 use native.Mathlib.Omega.{arith}
 use mathlib.Core.List.{List}

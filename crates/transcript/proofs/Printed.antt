@@ -1,8 +1,8 @@
 -- What is printed, by the sizes of the buffer and of the log.
---     nothing-printed     nothing, where the buffer is too short
---     text-printed        else the text of the log
---     too-long-printed    which is `too long` for a longer log
---     printed-within      the text that is printed lies in the buffer
+--     nothing_printed     nothing, where the buffer is too short
+--     text_printed        else the text of the log
+--     too_long_printed    which is `too long` for a longer log
+--     printed_within      the text that is printed lies in the buffer
 use Prim.Native.Nat.{ℕ, ◌+◌, ◌≤◌, ◌<◌}
 use native.Mathlib.Decide.{dec_lt}
 use native.Mathlib.Nat.{zero-add}

@@ -1,10 +1,10 @@
 -- The sizes of the parts of the text.
---     decimal-most       a number has at most maxDigits digits
---     decimal-within     and no more than j, where it is below 10 ^ j
---     answers-most       n answers, each a byte, take at most 4 bytes each
---     stop-most          the line of a stop, a byte, has room in stopRoom
---     rows-most          a row has room in rowRoom
---     run-most           so the text of a run has room
+--     decimal_most       a number has at most max_digits digits
+--     decimal_within     and no more than j, where it is below 10 ^ j
+--     answers_most       n answers, each a byte, take at most 4 bytes each
+--     stop_most          the line of a stop, a byte, has room in stop_room
+--     rows_most          a row has room in row_room
+--     run_most           so the text of a run has room
 use mathlib.Core.Path.{◌≡◌}
 use mathlib.Core.List.{List, [], ◌∷◌}
 use mathlib.Core.Logic.{by_cases}

@@ -1,6 +1,6 @@
 -- The text of a log that is run is that of its steps.
---     consumed-printed    of those that the run takes
---     log-printed         which are all that the log reads as
+--     consumed_printed    of those that the run takes
+--     log_printed         which are all that the log reads as
 -- Line by line: the answers and the end are those of the steps taken (`answers_given`, `same_end`, by Taken.antt of
 -- run), the rows those that their history lists (`rows_listed`, by LogRun.antt and RunState.antt). There are places
 -- for the answers to all records (`places_enough`), since a record has two bytes at least.
