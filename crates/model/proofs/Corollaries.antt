@@ -90,7 +90,7 @@ pub never_put : (mode : Mode) (es : List Event) (k : ℕ)
     → entry_of (after mode es).state.shared k ≡ 0
 never_put mode es k committed pending =
     let entry = entry_of (after mode es).state.shared k in
-    by_test (eqb entry 0) (eqb-true entry 0) (λ e. absurd (none_binds (bound mode es k (eqb-false entry 0 e))))
+    by_test (eqb entry 0) (eqb-true entry 0) (λ e. absurd (none_binds ((reached mode es).invariant.bound k (eqb-false entry 0 e))))
   where
     none_binds : Bound (after mode es).history (writer_of (after mode es).state) k → ⊥
     none_binds (by_committed c m puts) = puts_on_lem k c.operation puts (committed c m)

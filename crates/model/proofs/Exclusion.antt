@@ -107,7 +107,9 @@ pub lock_excludes : (es : List Event) (w : ℕ) → lock_at (after Optimistic es
     → (t : ℕ) → rows_at (step (after Optimistic es).state s).state.shared t ≡ rows_at (after Optimistic es).state.shared t
 unfolding rows_at guard
 lock_excludes es w held s other t =
-    same_below keys _ _ (λ k _. same_below groups _ _ (λ g _. guard_excludes Optimistic es w g held s other t k))
+    same_below keys _ _
+    (λ k _. same_below groups _ _
+    (λ g _. shown_stays (after Optimistic es) (reached Optimistic es) s g (rw (mode_stays Optimistic es) (λ e. other (omega arith))) t k))
 
 pub abort_frees : (mode : Mode) (es : List Event) (w p : ℕ) → p < groups → lock_at (after mode es).state p ≡ w + 1
     → lock_at (step (after mode es).state (record { writer = w; action = Abort })).state p ≡ 0
