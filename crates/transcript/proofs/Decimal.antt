@@ -1,4 +1,5 @@
 -- Numbers in decimal.
+--     digits_fit        the most digits of a word
 --     decimal_short     a number below 10 is one digit
 --     decimal_long      any other word is the digits before its last, and the last
 use mathlib.Core.Path.{◌≡◌, refl, sym, ◌∙◌}
@@ -10,7 +11,7 @@ use native.Mathlib.Nat.{pow-succ'}
 use native.Mathlib.Omega.{arith}
 use borrow.Author.Tests.{lt-ltb, le-ltb}
 use Rattle.common.specs.Width.{range}
-use Rattle.transcript.specs.Text.{zero_digit, max_digits, digits_fit, decimal_in, decimal}
+use Rattle.transcript.specs.Text.{zero_digit, max_digits, decimal_in, decimal}
 
 -- ---- with at most k digits before the last
 pub short_in : (k n : ℕ) → n < 10 → decimal_in k n ≡ (zero_digit + n) ∷ []
@@ -30,6 +31,10 @@ more_room (suc k) n h = by_cases (dec_lt n 10)
     (λ l. rw (long_in (suc k) n (omega arith), long_in k n (omega arith), more_room k (n / 10) (omega (arith, pow-succ' 10 (suc k)))))
 
 -- ---- a word
+-- no word has more digits, and some have as many
+pub digits_fit : (range ≤ 10 ^ max_digits) × (10 ^ (max_digits - 1) < range)
+digits_fit = omega arith
+
 pub decimal_short : (n : ℕ) → n < 10 → decimal n ≡ (zero_digit + n) ∷ []
 unfolding decimal
 decimal_short n h = short_in (max_digits - 1) n h

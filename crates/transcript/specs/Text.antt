@@ -1,8 +1,6 @@
 -- The parts of the printed text, in ASCII: each answer in decimal on its own line, the stop, and the rows of a scan (document 01, The step log, the program).
-use Rattle.std.specs.Prelude.{ℕ, zero, suc, ◌+◌, ◌-◌, ◌*◌, ◌/◌, ◌%◌, ◌^◌, ◌≤◌, ◌<◌, cond, ltb}
-use Rattle.std.proofs.Common.{arith}
+use Rattle.std.specs.Prelude.{ℕ, zero, suc, ◌+◌, ◌-◌, ◌*◌, ◌/◌, ◌%◌, cond, ltb}
 use mathlib.Core.List.{List, [], ◌∷◌, ◌++◌, flatten, map}
-use Rattle.common.specs.Width.{range}
 use Rattle.model.specs.Snapshot.{Row}
 
 abbrev pub newline : ℕ
@@ -15,13 +13,9 @@ space = 32
 abbrev pub zero_digit : ℕ
 zero_digit = 48
 
--- the most digits of a word
+-- the most digits of a word: no word has more, and some have as many (`digits_fit` of proofs/Decimal.antt)
 abbrev pub max_digits : ℕ
 max_digits = 20
-
--- no word has more, and some have as many
-pub digits_fit : (range ≤ 10 ^ max_digits) × (10 ^ (max_digits - 1) < range)
-digits_fit = omega arith
 
 -- n in decimal, with at most k digits before its last
 unfoldable pub decimal_in : ℕ → ℕ → List ℕ
