@@ -1,4 +1,4 @@
--- The answers of the call, in the order of their tests: out_of_range, no-writer, wrong-phase, and chosen.
+-- The answers of the call, in the order of their tests: out_of_range, no_writer, wrong_phase, and chosen.
 use Prim.Native.Nat.{ℕ, ◌<◌, ◌≤◌}
 use mathlib.Core.Bool.{true, false}
 use mathlib.Core.Path.{◌≡◌}

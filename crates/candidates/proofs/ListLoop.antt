@@ -1,6 +1,6 @@
 -- The loop that lists the completed timestamps among the marked ones: `ListedUpto` is its invariant, with one law for
 -- each way round it.
---     list-none, list-next, list-skip, list-end    before the first timestamp, past one that is listed, past another,
+--     list_none, list_next, list_skip, list_end    before the first timestamp, past one that is listed, past another,
 --                                                  and past all
 use Prim.Native.Nat.{ℕ, zero, suc, ◌+◌, ◌-◌, ◌<◌, ◌≤◌}
 use native.Mathlib.Nat.{zero-add}

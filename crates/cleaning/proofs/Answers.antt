@@ -1,6 +1,6 @@
 -- The answers of a clean, in the order of their tests.
---     in-range-swept    a table in range, as the sweep asks it
---     clean-out-of-range, clean-below, clean-above, clean-needed, clean-taken    a clean: each refusal, and one that is taken
+--     in_range_swept    a table in range, as the sweep asks it
+--     clean_out_of_range, clean_below, clean_above, clean_needed, clean_taken    a clean: each refusal, and one that is taken
 use Prim.Native.Nat.{ℕ, ◌<◌, ◌≤◌}
 use native.Mathlib.Omega.{arith}
 use mathlib.Core.Bool.{true, false, or-true}

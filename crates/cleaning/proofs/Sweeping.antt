@@ -1,5 +1,5 @@
 -- The sweep over the timestamps 1 to c: `Swept` is the loop's invariant, with one law for each way round it.
---     sweep-none, sweep-keep, sweep-drop, sweep-end    before the first timestamp, past one, past one whose slice is dropped, and past all
+--     sweep_none, sweep_keep, sweep_drop, sweep_end    before the first timestamp, past one, past one whose slice is dropped, and past all
 use Prim.Native.Nat.{ℕ, suc, ◌+◌, ◌<◌, ◌≤◌}
 use native.Mathlib.Numerals.{add-one}
 use native.Mathlib.Omega.{arith}

@@ -1,6 +1,6 @@
 -- The largest number of a list: the loop that takes it, and the tests of answer 17 as tests of it.
---     largest-next, largest-end    a turn of the loop over the numbers from a place on, and its end
---     at-most-largest, none-largest    each of some numbers is at most n, or 0, exactly if the largest is
+--     largest_next, largest_end    a turn of the loop over the numbers from a place on, and its end
+--     at_most_largest, none_largest    each of some numbers is at most n, or 0, exactly if the largest is
 use Prim.Native.Nat.{ℕ, zero, suc, ◌+◌, ◌<◌, ◌≤◌, max}
 use native.Mathlib.Numerals.{add-one}
 use native.Mathlib.Omega.{arith}

@@ -1,7 +1,7 @@
 -- The loop of the search, from the last timestamp down.
---     instant-slot, instant-above    where an instant stands, and that none stands above the end
+--     instant_slot, instant_above    where an instant stands, and that none stands above the end
 --     Looked                         the loop's invariant
---     look-first, look_hit, look-miss, look-end    its beginning, the ways on from a timestamp, its end
+--     look_first, look_hit, look_miss, look_end    its beginning, the ways on from a timestamp, its end
 use Prim.Native.Nat.{ℕ, zero, suc, ◌+◌, ◌-◌, ◌<◌, ◌≤◌, min}
 use native.Mathlib.Numerals.{sub-one}
 use native.Mathlib.Omega.{arith}

@@ -1,6 +1,6 @@
 -- What the search of the check step gives, by `newest`.
---     newest-above    the hit and the count
---     tells           so what a result of the search tells of `newest`
+--     newest_above_lem    the hit and the count
+--     tells               so what a result of the search tells of `newest`
 use Prim.Native.Nat.{ℕ, zero, suc, ◌+◌, ◌-◌, ◌<◌, ◌≤◌, zero-le}
 use native.Mathlib.Omega.{arith}
 use mathlib.Core.Bool.{Bool, true, false, cond, and-true, and-eq-true_iff}
