@@ -1,8 +1,8 @@
 -- Tests of each number below n, as specs/Counting.antt has them.
 --     below_all     a test that holds of each holds of all
---     below-stop    a test that fails of one fails of all
---     below-iff     it holds of all exactly if it does of each
---     below-same    two tests that agree below n
+--     below_stop    a test that fails of one fails of all
+--     below_iff     it holds of all exactly if it does of each
+--     below_same    two tests that agree below n
 use Prim.Native.Nat.{ℕ, zero, suc, ◌<◌}
 use mathlib.Core.Bool.{Bool, true, false, and-eq-true_iff}
 use mathlib.Core.Logic.{◌↔◌}

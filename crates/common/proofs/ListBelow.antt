@@ -1,11 +1,11 @@
 -- Lists over the numbers below n.
---     same-below, none_below, one_below    two that agree, and one that is empty, at all places or but for one
---     length-below                         one with at most m elements at each place
---     each-listed                          what holds of the elements at each place holds of all
+--     same_below, none_below, one_below    two that agree, and one that is empty, at all places or but for one
+--     length_below                         one with at most m elements at each place
+--     each_listed                          what holds of the elements at each place holds of all
 --     mem_below                            an element at a place is one of all
---     list-more, length_more               one number more
---     list-rest, list-whole                the part below n, and where that is all
---     sum-length                           the length as a sum
+--     list_more, length_more               one number more
+--     list_rest, list_whole                the part below n, and where that is all
+--     sum_length                           the length as a sum
 use Prim.Native.Nat.{ℕ, zero, suc, ◌+◌, ◌-◌, ◌*◌, ◌≤◌, ◌<◌}
 use mathlib.Core.Path.{◌≡◌, refl, sym, ◌∙◌, ap}
 use mathlib.Core.Logic.{◌≢◌, by_cases, ⊎_elim}

@@ -1,7 +1,7 @@
 -- Loops over the numbers below n, as invariants with one law for each way round.
---     SetUpto    a list is set place by place: set-none, set_next, set-end
---     Changed    a list is changed place by place: change-none, change-next, change-end
---     Summed     numbers are summed up: sum-none, sum-next, sum-end
+--     SetUpto    a list is set place by place: set_none, set_next, set_end
+--     Changed    a list is changed place by place: change_none, change_next, change_end
+--     Summed     numbers are summed up: sum_none, sum_next, sum_end
 use Prim.Native.Nat.{ℕ, ◌+◌, ◌*◌, ◌<◌, ◌≤◌}
 use native.Mathlib.Numerals.{add-one}
 use native.Mathlib.Omega.{arith}

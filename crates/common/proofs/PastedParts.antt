@@ -1,8 +1,8 @@
 -- Parts 0, 1, .. put one behind the other into a text by a loop: `Putting` holds at each turn, by `starts` before the first and `goes_on` after each.
---     starts-where          the same where no part may have to be put
+--     starts_where          the same where no part may have to be put
 --     same_length           the text keeps its length
---     part-fits             the next part has room
---     part-there, fills     the same of a loop that goes up to the place behind the last part
+--     part_fits             the next part has room
+--     part_there, fills     the same of a loop that goes up to the place behind the last part
 --     ends                  what is left behind, where the parts are counted
 use mathlib.Core.Path.{◌≡◌, sym, ap, ◌∙◌}
 use mathlib.Core.List.{List, [], ◌∷◌}

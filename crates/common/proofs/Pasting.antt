@@ -1,8 +1,8 @@
 -- A piece pasted into a buffer, of any element.
---     pasted-none       no piece changes nothing
+--     pasted_none       no piece changes nothing
 --     pasted_length     the buffer keeps its length
---     pasted-twice      pieces pasted one behind the other are pasted together
---     pasted-part       a piece pasted at the start of the part behind a place is pasted at that place
+--     pasted_twice      pieces pasted one behind the other are pasted together
+--     pasted_part       a piece pasted at the start of the part behind a place is pasted at that place
 use mathlib.Core.Path.{◌≡◌, sym, ap, ◌∙◌}
 use mathlib.Core.List.{List, [], ◌++◌, append_assoc, append-nil}
 use Prim.Native.Nat.{ℕ, ◌+◌, ◌-◌, ◌≤◌}

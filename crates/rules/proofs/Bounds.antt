@@ -1,6 +1,6 @@
 -- What an action may count on where its actor is in range.
---     actor-bounds    an actor in range has the bounds that the rules' functions require
---     slice-stored    at the write step its numbers name a slice, and that is stored
+--     actor_bounds    an actor in range has the bounds that the rules' functions require
+--     slice_stored_lem    at the write step its numbers name a slice, and that is stored
 use Prim.Native.Nat.{ℕ, zero, suc, ◌*◌, ◌<◌, ◌≤◌}
 use mathlib.Core.Bool.{true, and-true, and-eq-true_iff}
 use mathlib.Core.List.{List}

@@ -1,5 +1,5 @@
 -- A contract over any shared part, put to use at a given one.
---     at-state    a rule's function does to a whole shared part S what the rule does, where S has the fields that the function takes
+--     at_state    a rule's function does to a whole shared part S what the rule does, where S has the fields that the function takes
 --     carries     a verdict that is carried out gives what the rule gives that it follows
 use Prim.Native.Nat.{ℕ}
 use mathlib.Core.Path.{◌≡◌, ap, ◌∙◌}
