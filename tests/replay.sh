@@ -3,7 +3,7 @@
 # Needs the built program. Prints nothing and exits with 0 where every case holds; else prints the failing case and exits with 1.
 set -u
 cd "$(dirname "$0")/.." || { echo 'tests/replay.sh: no such directory'; exit 1; }
-[ -x target/bin/replay ] || { echo 'tests/replay.sh: target/bin/replay is not built (rt check replay)'; exit 1; }
+[ -x crates/replay/out/replay ] || { echo 'tests/replay.sh: crates/replay/out/replay is not built (rt run in crates/replay)'; exit 1; }
 log=crates/replay/stdin
 text=crates/replay/stdout
 dir=$(mktemp -d) || { echo 'tests/replay.sh: no temporary directory'; exit 1; }
@@ -11,7 +11,7 @@ trap 'rm -rf "$dir"' EXIT
 
 # Runs the program on standard input. Its exit status is kept in a file, since a pipe's last command is run in a shell of its own.
 run() {
-    target/bin/replay >"$dir/out" 2>"$dir/err"
+    crates/replay/out/replay >"$dir/out" 2>"$dir/err"
     echo "$?" >"$dir/status"
 }
 

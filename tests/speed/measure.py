@@ -1,8 +1,9 @@
 #!/usr/bin/env python3
 """Times crates/speed against reference.rs, a program in ordinary Rust, on logs of 128 whole operations with a scan after each.
 
-    rt check speed && python3 tests/speed/measure.py       prints, for each log and each type of its small numbers, both times of a pass and their ratio
-    python3 tests/speed/measure.py --store                 stores crates/speed/stdin, and the reference's output for it in crates/speed/stdout
+    (cd crates/speed && rt run < stdin > /dev/null)   proves and builds our program
+    python3 tests/speed/measure.py                    prints, for each log and each type of its small numbers, both times of a pass and their ratio
+    python3 tests/speed/measure.py --store            stores crates/speed/stdin, and the reference's output for it in crates/speed/stdout
 
 Both must print the same answers and rows before anything is timed. A time is that of many passes less that of one, over the passes, so that
 starting, reading and printing do not count. The two programs take turns; a time is the median of the rounds, the ratio that of their ratios.
@@ -86,7 +87,7 @@ def main():
             (CRATE / "stdin").write_bytes(leb128(2) + log(WRITERS))
             (CRATE / "stdout").write_bytes(output(plain, 2, log(WRITERS)))
         else:
-            ours = str(ROOT / "target" / "bin" / "speed")
+            ours = str(CRATE / "out" / "speed")
             measure(ours, plain, "usize")
             measure(ours, compiled(folder, "small", "--cfg", "small"), "u8")
 
