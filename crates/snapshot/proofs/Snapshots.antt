@@ -1,33 +1,27 @@
 -- The parts of a read put together: what the newest slices show is what the definitions list.
 --     in_range_coded    a table in range, as the pass down the timeline asks it
 --     Readable, not_refused    what a read asks that is not refused with 17 or 32
---     all_fit           what storing the rows asks
---     list_full, list_done    the rows of slices: no room, all stored
 --     scan_refused, scan_listed    a scan: refused so, or the rows of the newest slices
 --     read_refused, read_no_key, read_found    a point read
-use Prim.Native.Nat.{ℕ, ◌+◌, ◌*◌, ◌<◌, ◌≤◌}
+use Prim.Native.Nat.{ℕ, ◌<◌, ◌≤◌}
 use native.Mathlib.Omega.{arith}
 use mathlib.Core.Bool.{Bool, true, false}
 use mathlib.Core.Logic.{◌≢◌}
-use mathlib.Core.Path.{◌≡◌, refl, ◌∙◌, ap}
+use mathlib.Core.Path.{◌≡◌, refl, ap}
 use mathlib.Core.List.{List}
-use lib.ListN.{get_or, length}
+use lib.ListN.{get_or}
 use borrow.Author.Tests.{lt-ltb, le-ltb, le-leb, lt-leb}
-use Rattle.common.specs.Counting.{sum}
-use Rattle.common.specs.Pasting.{pasted}
 use Rattle.common.proofs.Cases.{cond_iff, facts}
 use Rattle.common.proofs.ListBelow.{same_below}
-use Rattle.model.specs.Limits.{keys, groups}
-use Rattle.model.specs.Answers.{taken, no_key, out_of_range, no_room, below_horizon}
+use Rattle.model.specs.Limits.{keys, groups, timestamps}
+use Rattle.model.specs.Answers.{taken, no_key, out_of_range, below_horizon}
 use Rattle.model.specs.State.{State}
 use Rattle.model.specs.Range.{in_range}
-use Rattle.model.specs.Snapshot.{Row, rows_of, all_rows, newest_at, rows_at, Listed, unlisted, listed_if_fits, numbers, scan, first_of, point_read}
+use Rattle.model.specs.Snapshot.{rows_of, all_rows, newest_at, rows_at, unlisted, listed_if_fits, scan, first_of, point_read}
 use Rattle.model.specs.declared.Found.TheVariants.{Refused}
 use Rattle.model.proofs.Ranged.{ranged}
-use Rattle.snapshot.specs.declared.rows.KeyCounts.{KeyCounts}
-use Rattle.snapshot.specs.Inner.{refusal, Coded, Slices, NewestSlices, slice_in, Counted, AllFit}
-use Rattle.snapshot.proofs.ShownRows.{numbers_length}
-use Rattle.snapshot.proofs.Counting.{counted_all}
+use Rattle.shown_rows.specs.Slices.{slice_in}
+use Rattle.snapshot.specs.Inner.{refusal, Coded, NewestSlices}
 
 pub in_range_coded : (st : State) → in_range st ≡ true → Coded st.shared.timeline
 in_range_coded st r i l = ((ranged st r).shared.instant i).coded
@@ -69,7 +63,7 @@ module _ (st : State) (t : ℕ) {slices : List ℕ} (h : NewestSlices st.shared.
   values = st.shared.values
 
   key_same : (k : ℕ) → rows_of present values (slice_in slices) k ≡ rows_of present values (newest_at st.shared t) k
-  key_same k = same_below groups _ _ (λ g l. rw (h.is g l))
+  key_same k = same_below groups _ _ (λ g l. rw (le-leb (get_or slices g 0) timestamps (h.within g l), h.is g l))
 
   all_same : all_rows present values (slice_in slices) ≡ rows_at st.shared t
   unfolding rows_at
@@ -82,24 +76,3 @@ module _ (st : State) (t : ℕ) {slices : List ℕ} (h : NewestSlices st.shared.
   pub scan_listed : Readable st t → (buffer : List ℕ) → listed_if_fits (all_rows present values (slice_in slices)) buffer ≡ scan st t buffer
   unfolding scan
   scan_listed r buffer = rw (r.fine, le-ltb t st.horizon r.above) (ap (λ rows. listed_if_fits rows buffer) all_same)
-
-module _ (present : List Bool) (values slices : List ℕ) {shown : KeyCounts} {count : ℕ}
-    (c : Counted slices present groups shown.counts shown.lowest) (e : count ≡ sum keys (λ k. get_or shown.counts k 0)) where
-  abbrev rows : List Row
-  rows = all_rows present values (slice_in slices)
-
-  counted : count ≡ length rows
-  counted = e ∙ counted_all slices present c values
-
-  pub all_fit : Slices slices → {room : ℕ} → 3 * count ≤ room → AllFit slices present values shown room
-  all_fit within l = record { slice = within; counted = c; fits = omega (arith, counted) }
-
-  pub list_full : (buffer : List ℕ) → length buffer < 3 * count → unlisted no_room buffer ≡ listed_if_fits rows buffer
-  list_full buffer l = rw (← counted, lt-ltb (length buffer) (3 * count) l)
-
-  pub list_done : {new : List ℕ} (buffer : List ℕ) → 3 * count ≤ length buffer → new ≡ pasted buffer 0 (numbers rows)
-      → ◌≡◌ {A = Listed} (record { answer = taken; count = count; buffer = new }) (listed_if_fits rows buffer)
-  unfolding pasted
-  list_done buffer l f =
-      let behind : 0 + length (numbers rows) ≡ 3 * length rows = omega (arith, numbers_length rows) in
-      rw (f, behind, counted, le-ltb (length buffer) (3 * length rows) (omega (arith, counted)))

@@ -2,19 +2,18 @@
 #![tactic(auto)]
 
 mod newest;
-mod rows;
 
 ghost use Rattle.std.specs.Prelude.{◌≡◌, Bool, List, ℕ};
 ghost use Rattle.model.specs.State.{state_of};
-ghost use Rattle.model.specs.Snapshot.{all_rows, unlisted, listed_if_fits, scan, point_read, found_numbers, instant_state, instant_at, instant_numbers};
+ghost use Rattle.model.specs.Snapshot.{unlisted, scan, point_read, found_numbers, instant_state, instant_at, instant_numbers};
 ghost use Rattle.model.specs.Calls.{scanned};
-ghost use Rattle.snapshot.specs.Inner.{refusal, Slices, slice_in};
+ghost use Rattle.snapshot.specs.Inner.{refusal};
 
 use common::Word;
 use metadata::{in_range, instant_of, parts_in_range};
-use model::answers::{BELOW_HORIZON, NO_KEY, NO_ROOM, OUT_OF_RANGE, TAKEN};
+use model::answers::{BELOW_HORIZON, NO_KEY, OUT_OF_RANGE, TAKEN};
 use model::instants::{COMPLETED, INFLIGHT, NONE, REQUESTED};
-use model::limits::{GROUPS, KEYS, ROWS};
+use model::limits::{KEYS, ROWS};
 use model::{Found, InstantState, Scanned, Table, Value};
 
 // The refusal of a read of a table whose range test gave `tested`, or TAKEN.
@@ -36,29 +35,6 @@ fn refused(answer: u8, buffer: &mut [Word]) -> Scanned
     ensures { scanned result buffer ≡ unlisted answer buffer.old }
 {
     Scanned { answer, count: 0 }
-}
-
-// The rows that the file groups' slices show, three numbers each, into a lent buffer, if it has room for all.
-fn list(
-    slices: [u8; GROUPS],
-    present: &[bool; ROWS],
-    values: &[Value; ROWS],
-    buffer: &mut [Word],
-) -> Scanned
-    requires { Slices slices }
-    ensures { scanned result buffer ≡ listed_if_fits (all_rows present.now values.now (slice_in slices)) buffer.old }
-{
-    let shown = rows::count_slices(slices, present);
-    let counts = shown.counts;
-    let count = rows::total(counts);
-    if buffer.len() < 3 * count {
-        return refused(NO_ROOM, buffer);
-    }
-    rows::store(slices, present, values, shown, buffer);
-    Scanned {
-        answer: TAKEN,
-        count,
-    }
 }
 
 // The rows at a timestamp, three numbers each, into a lent buffer. The table is taken apart for the range test: handed on whole it would be copied.
@@ -86,7 +62,7 @@ pub fn scan(
         return refused(answer, buffer);
     }
     let slices = newest::newest_of_groups(timeline, at);
-    list(slices, present, values, buffer)
+    shown_rows::list(slices, present, values, buffer)
 }
 
 // The row of a key at a timestamp.
@@ -102,7 +78,7 @@ pub fn read(t: Table, present: &[bool; ROWS], values: &[Value; ROWS], at: u64, k
     }
     let timeline = t.timeline;
     let slices = newest::newest_of_groups(timeline, at);
-    rows::first_row(slices, present, values, key as usize)
+    shown_rows::first_row(slices, present, values, key as usize)
 }
 
 // What an instant's number means.

@@ -15,9 +15,6 @@ newest_of_groups-slices-requires c =
     let st = state_of c.args.t [] [] in
     in_range_coded st (not_refused st _ (c.parts_in_range-tested.ensures st refl) c.refusal_of-answer.ensures c.if-answer-ne-TAKEN.false).fine
 
-pub list-requires : goal.list-requires
-list-requires c = c.newest_of_groups-slices.ensures.within
-
 pub returns : goal.returns
 returns c =
     let st = state_of c.args.t _ _ in
