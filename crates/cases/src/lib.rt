@@ -9,6 +9,7 @@
 
 mod items;
 mod show;
+mod takes;
 
 use model::limits::ROWS;
 use model::{Mode, Value};
@@ -25,5 +26,5 @@ pub fn take_input(out: &mut impl Write, reader: &mut impl Read) -> io::Result<()
     let mut present = [false; ROWS];
     let mut values: [Value; ROWS] = [0; ROWS];
     let t = table::fresh(Mode::Optimistic, &mut present, &mut values);
-    items::take_each(out, t, &mut present, &mut values, &input[..size])
+    takes::take_each(out, t, &mut present, &mut values, &input[..size])
 }

@@ -2,9 +2,8 @@
 use common::Word;
 use model::limits::{GROUPS, KEYS, ROWS};
 use model::{Table, Value};
-use report::{marked, number, text};
+use report::SIGNS;
 use slices::row_place;
-use snapshot::scan;
 use std::io;
 use std::io::Write;
 
@@ -20,8 +19,8 @@ fn listing(
     at: u64,
 ) -> io::Result<()> {
     let mut buffer = [0; ROOM];
-    let found = scan(t, present, values, at, &mut buffer);
-    report::short_listing(out, found, &buffer)
+    let found = snapshot::scan(t, present, values, at, &mut buffer);
+    SIGNS.listing(out, found, &buffer)
 }
 
 // The point reads of the keys below a number.
@@ -34,33 +33,36 @@ fn point_reads(
     keys: Word,
 ) -> io::Result<()> {
     for key in 0..keys {
-        report::short_found(out, snapshot::read(t, present, values, at, key))?;
+        SIGNS.found(out, snapshot::read(t, present, values, at, key))?;
     }
     Ok(())
 }
 
-// A row that is stored under a timestamp: its file group and key. The rows are counted by file group.
-fn stored_row(out: &mut impl Write, present: &[bool; ROWS], ts: usize, i: usize) -> io::Result<()> {
-    let group = i / KEYS;
-    let key = i % KEYS;
-    let row = row_place(group, ts, key);
-    if row < ROWS {
-        if present[row] {
-            number(out, group as u64)?;
-            marked(out, b":", key as u64)?;
+// A row that is stored under a timestamp: its file group and key.
+fn stored_row(
+    out: &mut impl Write,
+    present: &[bool; ROWS],
+    ts: usize,
+    group: usize,
+    key: usize,
+) -> io::Result<()> {
+    if present.get(row_place(group, ts, key)) == Some(&true) {
+        write!(out, " {group}:{key}")?;
+    }
+    Ok(())
+}
+
+// The rows that are stored under a timestamp, of slices that are completed or not, by file group.
+fn stored(out: &mut impl Write, present: &[bool; ROWS], ts: usize) -> io::Result<()> {
+    for group in 0..GROUPS {
+        for key in 0..KEYS {
+            stored_row(out, present, ts, group, key)?;
         }
     }
     Ok(())
 }
 
-// The rows that are stored under a timestamp, of slices that are completed or not.
-fn stored(out: &mut impl Write, present: &[bool; ROWS], ts: usize) -> io::Result<()> {
-    for i in 0..GROUPS * KEYS {
-        stored_row(out, present, ts, i)?;
-    }
-    Ok(())
-}
-
+// A timestamp: its instant, scan, reads and stored rows.
 fn line(
     out: &mut impl Write,
     t: Table,
@@ -69,18 +71,18 @@ fn line(
     at: u64,
     keys: Word,
 ) -> io::Result<()> {
-    marked(out, b"", at)?;
-    report::short_instant(out, snapshot::instant(t, at))?;
-    text(out, b":")?;
+    write!(out, "{at}")?;
+    SIGNS.instant(out, snapshot::instant(t, at))?;
+    write!(out, ":")?;
     listing(out, t, present, values, at)?;
-    text(out, b";")?;
+    write!(out, ";")?;
     point_reads(out, t, present, values, at, keys)?;
-    text(out, b";")?;
+    write!(out, ";")?;
     stored(out, present, at as usize)?;
-    text(out, b"\n")
+    writeln!(out)
 }
 
-// The instant, the scan, the reads and the stored rows of each timestamp up to a last one.
+// The line of each timestamp up to a last one.
 pub fn show(
     out: &mut impl Write,
     t: Table,

@@ -1,9 +1,9 @@
 // The calls that take a table, each tried on one that stays as it is.
 use crate::changes::changes;
-use crate::setting::{Pair, pair_at};
+use crate::setting::Pairs;
 use model::limits::{GROUPS, KEYS, ROWS, TIMESTAMPS};
 use model::{Step, Table, Value};
-use report::text;
+use report::SIGNS;
 use std::io;
 use std::io::Write;
 use steplog::Record;
@@ -28,8 +28,9 @@ fn step_tried(
     let mut shown = *present;
     let mut held = *values;
     let done = table::advance(t, &mut shown, &mut held, step);
-    report::marked(out, b"step: ", done.answer as u64)?;
-    changes(out, t, present, values, done.table, &shown, &held)
+    let answer = done.answer;
+    write!(out, "step: {answer}")?;
+    changes(out, &t, present, values, &done.table, &shown, &held)
 }
 
 // Each record of a log, as one step.
@@ -40,17 +41,13 @@ fn steps_tried(
     values: &[Value; ROWS],
     log: &[u8],
 ) -> io::Result<()> {
-    let mut at: usize = 0;
-    while at < log.len() {
-        let found = steplog::read_from(log, at);
-        let Record::Taken { step, next } = found else {
+    let mut reader = steplog::open(log, 0);
+    // No more records than bytes.
+    for _ in log {
+        let Record::Taken { step, .. } = steplog::next(&mut reader) else {
             return Ok(());
         };
-        if next <= at {
-            return Ok(());
-        }
         step_tried(out, t, present, values, step)?;
-        at = next;
     }
     Ok(())
 }
@@ -68,7 +65,7 @@ fn run_tried(
     let mut places = [0u8; PLACES];
     let ran = run::run_log(t, &mut shown, &mut held, log, &mut places);
     report::ran(out, &places, ran.count, ran.stop, ran.offset)?;
-    changes(out, t, present, values, ran.table, &shown, &held)
+    changes(out, &t, present, values, &ran.table, &shown, &held)
 }
 
 // The range test; then each record of a log as one step, and the run of the log.
@@ -80,9 +77,9 @@ pub fn log_tried(
     log: &[u8],
 ) -> io::Result<()> {
     if metadata::in_range(t) {
-        text(out, b"in range\n")?;
+        writeln!(out, "in range")?;
     } else {
-        text(out, b"out of range\n")?;
+        writeln!(out, "out of range")?;
     }
     steps_tried(out, t, present, values, log)?;
     run_tried(out, t, present, values, log)
@@ -98,9 +95,9 @@ pub fn clean_tried(
 ) -> io::Result<()> {
     let mut shown = *present;
     let done = cleaning::clean(t, &mut shown, at);
-    report::marked(out, b"clean tried at ", at)?;
-    report::marked(out, b": ", done.answer as u64)?;
-    changes(out, t, present, values, done.table, &shown, values)
+    let answer = done.answer;
+    write!(out, "clean tried at {at}: {answer}")?;
+    changes(out, &t, present, values, &done.table, &shown, values)
 }
 
 // The instant of a timestamp, the point read of a key there, and the scan. The numbers are a pair, timestamp and key.
@@ -111,32 +108,15 @@ pub fn read_tried(
     values: &[Value; ROWS],
     numbers: &[u8],
 ) -> io::Result<()> {
-    let Pair { first, second, .. } = pair_at(numbers, 0);
+    let (at, key) = Pairs::of(numbers).next().unwrap_or_default();
     let mut buffer = [FILL; ROOM];
-    report::marked(out, b"at ", first)?;
-    text(out, b":")?;
-    report::short_instant(out, snapshot::instant(t, first))?;
-    report::short_found(out, snapshot::read(t, present, values, first, second))?;
-    text(out, b";")?;
-    let found = snapshot::scan(t, present, values, first, &mut buffer);
-    report::short_listing(out, found, &buffer)?;
-    text(out, b"\n")
-}
-
-// A scan into the first numbers of a buffer, which are printed whole.
-fn scan_into_room(
-    out: &mut impl Write,
-    t: Table,
-    present: &[bool; ROWS],
-    values: &[Value; ROWS],
-    at: u64,
-    buffer: &mut [Value],
-    room: usize,
-) -> io::Result<()> {
-    if room <= buffer.len() {
-        scripts::scan_into(out, t, present, values, at, &mut buffer[..room])?;
-    }
-    Ok(())
+    write!(out, "at {at}:")?;
+    SIGNS.instant(out, snapshot::instant(t, at))?;
+    SIGNS.found(out, snapshot::read(t, present, values, at, key))?;
+    write!(out, ";")?;
+    let found = snapshot::scan(t, present, values, at, &mut buffer);
+    SIGNS.listing(out, found, &buffer)?;
+    writeln!(out)
 }
 
 // A scan into a buffer, which is printed whole. The numbers are a pair, the timestamp and the room.
@@ -147,15 +127,10 @@ pub fn scan_tried(
     values: &[Value; ROWS],
     numbers: &[u8],
 ) -> io::Result<()> {
-    let asked = pair_at(numbers, 0);
+    let (at, room) = Pairs::of(numbers).next().unwrap_or_default();
     let mut buffer = [FILL; ROOM];
-    scan_into_room(
-        out,
-        t,
-        present,
-        values,
-        asked.first,
-        &mut buffer,
-        asked.second as usize,
-    )
+    match buffer.get_mut(..room as usize) {
+        Some(buffer) => scripts::scan_into(out, t, present, values, at, buffer),
+        None => Ok(()),
+    }
 }

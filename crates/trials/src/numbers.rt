@@ -3,7 +3,13 @@ use common::Word;
 use model::limits::{GROUPS, KEYS, NOTED, TIMESTAMPS, WRITERS};
 use model::{Mode, Table, Writer};
 
-// Where the arrays begin.
+// Where each field begins.
+const MODE: usize = 0;
+
+const HORIZON: usize = 1;
+
+const LAST: usize = 2;
+
 const LOCKS: usize = 3;
 
 const INDEX: usize = LOCKS + GROUPS;
@@ -24,20 +30,6 @@ const FIELDS: usize = 8;
 // All numbers of a table but for its rows.
 pub const NUMBERS: usize = WRITERS_NUMBERS + FIELDS * WRITERS;
 
-fn flag(b: bool) -> Word {
-    if b {
-        return 1;
-    }
-    0
-}
-
-fn mode_number(mode: Mode) -> Word {
-    match mode {
-        Mode::Optimistic => 0,
-        Mode::Pessimistic => 1,
-    }
-}
-
 fn mode_of(n: Word) -> Mode {
     if n == 0 {
         return Mode::Optimistic;
@@ -47,93 +39,52 @@ fn mode_of(n: Word) -> Mode {
 
 // A number of a writer: its phase, is it a put, has it made its entry, key, file group, timestamp, base, value.
 fn writer_number(x: Writer, field: usize) -> Word {
-    if field == 0 {
-        return x.phase as Word;
+    match field {
+        0 => x.phase as Word,
+        1 => Word::from(x.put),
+        2 => Word::from(x.made),
+        3 => x.key as Word,
+        4 => x.group as Word,
+        5 => x.ts as Word,
+        6 => x.base as Word,
+        _ => x.value,
     }
-    if field == 1 {
-        return flag(x.put);
-    }
-    if field == 2 {
-        return flag(x.made);
-    }
-    if field == 3 {
-        return x.key as Word;
-    }
-    if field == 4 {
-        return x.group as Word;
-    }
-    if field == 5 {
-        return x.ts as Word;
-    }
-    if field == 6 {
-        return x.base as Word;
-    }
-    x.value
 }
 
+// A writer with another number.
 fn with_writer_number(x: Writer, field: usize, n: Word) -> Writer {
-    let mut x = x;
-    if field == 0 {
-        x.phase = byte_of(n);
+    let byte = byte_of(n);
+    let flag = n != 0;
+    match field {
+        0 => Writer { phase: byte, ..x },
+        1 => Writer { put: flag, ..x },
+        2 => Writer { made: flag, ..x },
+        3 => Writer { key: byte, ..x },
+        4 => Writer { group: byte, ..x },
+        5 => Writer { ts: byte, ..x },
+        6 => Writer { base: byte, ..x },
+        _ => Writer { value: n, ..x },
     }
-    if field == 1 {
-        x.put = n != 0;
-    }
-    if field == 2 {
-        x.made = n != 0;
-    }
-    if field == 3 {
-        x.key = byte_of(n);
-    }
-    if field == 4 {
-        x.group = byte_of(n);
-    }
-    if field == 5 {
-        x.ts = byte_of(n);
-    }
-    if field == 6 {
-        x.base = byte_of(n);
-    }
-    if field == 7 {
-        x.value = n;
-    }
-    x
 }
 
 // The number at a place; 0 past the last.
-pub fn number_at(t: Table, place: usize) -> Word {
-    if place == 0 {
-        return mode_number(t.mode);
+pub fn number_at(t: &Table, place: usize) -> Word {
+    match place {
+        MODE => t.mode as Word,
+        HORIZON => t.horizon as Word,
+        LAST => t.last as Word,
+        LOCKS..INDEX => t.locks[place - LOCKS] as Word,
+        INDEX..TIMELINE => t.index[place - INDEX] as Word,
+        TIMELINE..PLACES => t.timeline[place - TIMELINE] as Word,
+        PLACES..COUNTS => t.places[place - PLACES] as Word,
+        COUNTS..NOTED_TIMESTAMPS => t.counts[place - COUNTS] as Word,
+        NOTED_TIMESTAMPS..WRITERS_NUMBERS => t.noted[place - NOTED_TIMESTAMPS] as Word,
+        WRITERS_NUMBERS..NUMBERS => {
+            let at = place - WRITERS_NUMBERS;
+            writer_number(t.writers[at / FIELDS], at % FIELDS)
+        }
+        _ => 0,
     }
-    if place == 1 {
-        return t.horizon as Word;
-    }
-    if place == 2 {
-        return t.last as Word;
-    }
-    if place < INDEX {
-        return t.locks[place - LOCKS] as Word;
-    }
-    if place < TIMELINE {
-        return t.index[place - INDEX] as Word;
-    }
-    if place < PLACES {
-        return t.timeline[place - TIMELINE] as Word;
-    }
-    if place < COUNTS {
-        return t.places[place - PLACES] as Word;
-    }
-    if place < NOTED_TIMESTAMPS {
-        return t.counts[place - COUNTS] as Word;
-    }
-    if place < WRITERS_NUMBERS {
-        return t.noted[place - NOTED_TIMESTAMPS] as Word;
-    }
-    if place < NUMBERS {
-        let at = place - WRITERS_NUMBERS;
-        return writer_number(t.writers[at / FIELDS], at % FIELDS);
-    }
-    0
 }
 
 // A number that is a byte.
@@ -141,79 +92,25 @@ fn byte_of(n: Word) -> u8 {
     (n % 256) as u8
 }
 
-fn with_mode(t: Table, mode: Mode) -> Table {
-    let writers = t.writers;
-    let locks = t.locks;
-    let index = t.index;
-    let timeline = t.timeline;
-    let places = t.places;
-    let counts = t.counts;
-    let noted = t.noted;
-    Table {
-        writers,
-        mode,
-        horizon: t.horizon,
-        last: t.last,
-        locks,
-        index,
-        timeline,
-        places,
-        counts,
-        noted,
-    }
-}
-
-// A table with another number at a place before the writers'.
-fn with_shared_number(t: Table, place: usize, n: u8) -> Table {
-    let mut t = t;
-    if place == 1 {
-        t.horizon = n;
-        return t;
-    }
-    if place < LOCKS {
-        t.last = n;
-        return t;
-    }
-    if place < INDEX {
-        t.locks[place - LOCKS] = n;
-        return t;
-    }
-    if place < TIMELINE {
-        t.index[place - INDEX] = n;
-        return t;
-    }
-    if place < PLACES {
-        t.timeline[place - TIMELINE] = n;
-        return t;
-    }
-    if place < COUNTS {
-        t.places[place - PLACES] = n;
-        return t;
-    }
-    if place < NOTED_TIMESTAMPS {
-        t.counts[place - COUNTS] = n;
-        return t;
-    }
-    if place < WRITERS_NUMBERS {
-        t.noted[place - NOTED_TIMESTAMPS] = n;
-        return t;
-    }
-    t
-}
-
-// A table with another number at a place.
+// A table with another number at a place; past the last nothing changes.
 pub fn with_number(t: Table, place: usize, n: Word) -> Table {
     let mut t = t;
-    if place == 0 {
-        return with_mode(t, mode_of(n));
-    }
-    if place < WRITERS_NUMBERS {
-        return with_shared_number(t, place, byte_of(n));
-    }
-    let at = place - WRITERS_NUMBERS;
-    if at / FIELDS < WRITERS {
-        let x = with_writer_number(t.writers[at / FIELDS], at % FIELDS, n);
-        t.writers[at / FIELDS] = x;
+    let byte = byte_of(n);
+    match place {
+        MODE => t.mode = mode_of(n),
+        HORIZON => t.horizon = byte,
+        LAST => t.last = byte,
+        LOCKS..INDEX => t.locks[place - LOCKS] = byte,
+        INDEX..TIMELINE => t.index[place - INDEX] = byte,
+        TIMELINE..PLACES => t.timeline[place - TIMELINE] = byte,
+        PLACES..COUNTS => t.places[place - PLACES] = byte,
+        COUNTS..NOTED_TIMESTAMPS => t.counts[place - COUNTS] = byte,
+        NOTED_TIMESTAMPS..WRITERS_NUMBERS => t.noted[place - NOTED_TIMESTAMPS] = byte,
+        WRITERS_NUMBERS..NUMBERS => {
+            let at = place - WRITERS_NUMBERS;
+            t.writers[at / FIELDS] = with_writer_number(t.writers[at / FIELDS], at % FIELDS, n);
+        }
+        _ => {}
     }
     t
 }

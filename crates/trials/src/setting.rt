@@ -1,39 +1,56 @@
 // Tables whose numbers are set, as pairs of numbers in the coding of the log say: a place, and the number there. Behind the numbers of a table stand
 // those of its rows, first which are present, then their values.
+ghost use Rattle.std.specs.Prelude.{◌-◌, length};
+ghost use Rattle.std.specs.Iterator.{at_most};
+
 use crate::numbers::{NUMBERS, with_number};
 use common::Word;
 use leb128::Decoded;
 use model::limits::ROWS;
 use model::{Table, Value};
 
-// Two numbers, and where they end.
+// The pairs of numbers of an input, from a place on.
 #[derive(Clone, Copy)]
-pub struct Pair {
-    pub first: Word,
-    pub second: Word,
-    pub next: usize,
+pub struct Pairs<'a> {
+    input: &'a [u8],
+    at: usize,
 }
 
-// The pair at a place; one that is cut short ends where the input does.
-pub fn pair_at(input: &[u8], at: usize) -> Pair {
-    let cut_short = Pair {
-        first: 0,
-        second: 0,
-        next: input.len(),
-    };
-    let found = leb128::decode(input, at);
-    let Decoded::Number { value, next } = found else {
-        return cut_short;
-    };
-    let first = value;
-    let behind = leb128::decode(input, next);
-    let Decoded::Number { value, next } = behind else {
-        return cut_short;
-    };
-    Pair {
-        first,
-        second: value,
-        next,
+impl<'a> Pairs<'a> {
+    // The pairs of an input.
+    pub fn of(input: &'a [u8]) -> Pairs<'a> {
+        Pairs { input, at: 0 }
+    }
+
+    // The pair at the place, and the place behind it, if it is not cut short.
+    fn whole(&self) -> Option<(Word, Word, usize)> {
+        let Decoded::Number { value: first, next } = leb128::decode(self.input, self.at) else {
+            return None;
+        };
+        let Decoded::Number {
+            value: second,
+            next,
+        } = leb128::decode(self.input, next)
+        else {
+            return None;
+        };
+        Some((first, second, next))
+    }
+}
+
+impl Iterator for Pairs<'_> {
+    type Item = (Word, Word);
+
+    ghost remaining = { λ s. at_most (length s.input.now - s.at) };
+
+    // A pair that is cut short is the last, and has zeros.
+    fn next(&mut self) -> Option<(Word, Word)> {
+        if self.input.len() <= self.at {
+            return None;
+        }
+        let (first, second, next) = self.whole().unwrap_or((0, 0, self.input.len()));
+        self.at = next.max(self.at + 1);
+        Some((first, second))
     }
 }
 
@@ -41,9 +58,7 @@ pub fn pair_at(input: &[u8], at: usize) -> Pair {
 fn set_row(present: &mut [bool; ROWS], values: &mut [Value; ROWS], place: usize, n: Word) {
     if place < ROWS {
         present[place] = n != 0;
-        return;
-    }
-    if place - ROWS < ROWS {
+    } else if place - ROWS < ROWS {
         values[place - ROWS] = n;
     }
 }
@@ -68,17 +83,11 @@ pub fn set(
     t: Table,
     present: &mut [bool; ROWS],
     values: &mut [Value; ROWS],
-    pairs: &[u8],
+    input: &[u8],
 ) -> Table {
     let mut t = t;
-    let mut at: usize = 0;
-    while at < pairs.len() {
-        let pair = pair_at(pairs, at);
-        t = set_number(t, present, values, pair.first as usize, pair.second);
-        if pair.next <= at {
-            return t;
-        }
-        at = pair.next;
+    for (place, n) in Pairs::of(input) {
+        t = set_number(t, present, values, place as usize, n);
     }
     t
 }

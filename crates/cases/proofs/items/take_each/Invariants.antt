@@ -1,6 +1,0 @@
--- `take_each` ends: each turn goes on in the input.
-use Rattle.std.proofs.Common.{◌-◌, length}
-use Rattle.cases.proofs.items.take_each.Given as goal
-
-abbrev pub decreases-loop-at : goal.decreases-loop-at
-decreases-loop-at g l = length l.input - l.at

@@ -1,9 +1,0 @@
--- `rows` is safe and ends: the loop passes no end of the buffer.
-use Rattle.std.proofs.Common.{◌≤◌, ◌-◌, length}
-use Rattle.report.proofs.rows.Given as goal
-
-abbrev pub invariant-loop-at : goal.invariant-loop-at
-invariant-loop-at g l = l.at ≤ length l.buffer
-
-abbrev pub decreases-loop-at : goal.decreases-loop-at
-decreases-loop-at g l = length l.buffer - l.at
