@@ -1,6 +1,6 @@
 -- The pass down the timeline that finds the newest slice of each file group: `Passed` is the loop's invariant, with one law for each way round it.
 --     pass_none, pass_open, pass_old, pass_new, pass_end, pass_full    the laws of `Passed`
---     pass_group, pass_missing    a completed instant names a file group, and one found first is among those missing
+--     pass_missing    a file group that is found first is among those missing
 use Prim.Native.Nat.{ℕ, zero, suc, ◌+◌, ◌-◌, ◌<◌, ◌≤◌, min}
 use native.Mathlib.Nat.{eq-zero-or-pos}
 use native.Mathlib.Decide.{ℕ_discrete, dec_le}
@@ -115,7 +115,7 @@ module _ {timeline : List ℕ} {t missing n : ℕ} {slices : List ℕ} (s : Pass
     pub pass_old : completed 0 ≤ instant → (get_or slices group 0 ≡ 0 → ⊥) → Passed timeline t slices missing (n - 1)
     pass_old l d = passed_over (λ g h z e. let q : group ≡ g = omega arith in d (rw q z))
 
-    pub pass_group : group < groups
+    pass_group : group < groups
     pass_group = omega (arith, s.coded (n - 1) (omega (arith, s.low)))
 
     module _ (l : completed 0 ≤ instant) (z : get_or slices group 0 ≡ 0) where

@@ -82,19 +82,16 @@ pub fn read(t: Table, present: &[bool; ROWS], values: &[Value; ROWS], at: u64, k
 }
 
 // What an instant's number means.
+#[tactic(auto, unfolding(model::specs::Snapshot::instant_state))]
 fn state_of(instant: u8) -> InstantState
     ensures { result ≡ instant_state instant }
 {
-    if instant == NONE {
-        return InstantState::None;
+    match instant {
+        NONE => InstantState::None,
+        REQUESTED => InstantState::Requested,
+        INFLIGHT..COMPLETED => InstantState::Inflight(instant - INFLIGHT),
+        _ => InstantState::Completed(instant - COMPLETED),
     }
-    if instant == REQUESTED {
-        return InstantState::Requested;
-    }
-    if instant < COMPLETED {
-        return InstantState::Inflight(instant - INFLIGHT);
-    }
-    InstantState::Completed(instant - COMPLETED)
 }
 
 // The state of the instant of a timestamp (document 01's third call).
