@@ -1,7 +1,8 @@
 // Logs that are read from an input, each four bytes of length, the lowest first, and its bytes: their transcripts, printed.
 #![tactic(auto)]
 
-ghost use Rattle.std.specs.Prelude.{◌+◌, ◌<◌, ◌≤◌, ◌^◌, length};
+ghost use Rattle.std.specs.Prelude.{length};
+ghost use Rattle.std.specs.Iterator.{at_most};
 
 use model::Mode;
 use std::io;
@@ -11,49 +12,29 @@ use transcript::MAX_TEXT;
 // Room for the whole input.
 const MAX_INPUT: usize = 262144;
 
-fn wide(byte: u8) -> usize
-    ensures { result < 256 }
-{
-    byte as usize
-}
+// The logs at the start of an input, as far as they are whole.
+#[derive(Drop)]
+struct Logs<'a>(&'a [u8]);
 
-// The length of the log at a place.
-fn length_at(input: &[u8], at: usize) -> usize
-    requires { at + 4 ≤ length input.now }
-    ensures { result < 2 ^ 32 }
-{
-    let a = wide(input[at]);
-    let b = wide(input[at + 1]);
-    let c = wide(input[at + 2]);
-    let d = wide(input[at + 3]);
-    a + 256 * (b + 256 * (c + 256 * d))
-}
+impl<'a> Iterator for Logs<'a> {
+    type Item = &'a [u8];
 
-fn print_log(out: &mut impl Write, mode: Mode, number: u64, log: &[u8]) -> io::Result<()> {
-    out.write_all(b"log ")?;
-    write!(out, "{number}")?;
-    out.write_all(b"\n")?;
-    let mut text = [0u8; MAX_TEXT];
-    let size = transcript::transcribe(mode, log, &mut text);
-    out.write_all(&text[..size])
-}
+    ghost remaining = { λ logs. at_most (length logs.0.now) };
 
-// Prints each whole log, with its number.
-fn print_logs(out: &mut impl Write, mode: Mode, input: &[u8]) -> io::Result<()> {
-    let mut number: u64 = 0;
-    let mut at: usize = 0;
-    while 4 <= input.len() - at {
-        let size = length_at(input, at);
-        let first = at + 4;
-        if input.len() - first < size {
-            return Ok(());
-        }
-        let next = first + size;
-        print_log(out, mode, number, &input[first..next])?;
-        number += 1;
-        at = next;
+    fn next(&mut self) -> Option<&'a [u8]> {
+        let (size, rest) = self.0.split_first_chunk()?;
+        let (log, behind) = rest.split_at_checked(u32::from_le_bytes(*size) as usize)?;
+        self.0 = behind;
+        Some(log)
     }
-    Ok(())
+}
+
+// Prints a log's transcript under its number.
+fn print_log(out: &mut impl Write, mode: Mode, number: usize, log: &[u8]) -> io::Result<()> {
+    writeln!(out, "log {number}")?;
+    let mut text = [0u8; MAX_TEXT];
+    let size = transcript::transcribe(mode, log, &mut text).unwrap();
+    out.write_all(&text[..size])
 }
 
 // Prints the transcript of each log that a reader gives, run on a fresh table of a mode.
@@ -64,5 +45,8 @@ pub fn print_transcripts(
 ) -> io::Result<()> {
     let mut input = [0u8; MAX_INPUT];
     let size = input::read_full(reader, &mut input)?;
-    print_logs(out, mode, &input[..size])
+    for (number, log) in Logs(&input[..size]).enumerate() {
+        print_log(out, mode, number, log)?;
+    }
+    Ok(())
 }

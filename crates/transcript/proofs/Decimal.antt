@@ -2,8 +2,9 @@
 --     digits_fit        the most digits of a word
 --     decimal_short     a number below 10 is one digit
 --     decimal_long      any other word is the digits before its last, and the last
+--     decimal_pieces    which are its pieces
 use mathlib.Core.Path.{◌≡◌, refl, sym, ◌∙◌}
-use mathlib.Core.List.{[], ◌∷◌, ◌++◌}
+use mathlib.Core.List.{[], ◌∷◌, ◌++◌, flatten}
 use mathlib.Core.Logic.{by_cases}
 use Prim.Native.Nat.{ℕ, zero, suc, ◌+◌, ◌-◌, ◌/◌, ◌%◌, ◌^◌, ◌≤◌, ◌<◌}
 use native.Mathlib.Decide.{dec_lt}
@@ -42,3 +43,7 @@ decimal_short n h = short_in (max_digits - 1) n h
 pub decimal_long : (n : ℕ) → 10 ≤ n → n < range → decimal n ≡ decimal (n / 10) ++ (zero_digit + n % 10) ∷ []
 unfolding decimal
 decimal_long n h fits = rw (more_room (max_digits - 2) (n / 10) (omega (arith, digits_fit))) (long_in (max_digits - 2) n h)
+
+pub decimal_pieces : (n : ℕ) → 10 ≤ n → n < range → decimal n ≡ flatten (decimal (n / 10) ∷ ((zero_digit + n % 10) ∷ []) ∷ [])
+unfolding flatten
+decimal_pieces n h fits = decimal_long n h fits

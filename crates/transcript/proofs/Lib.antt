@@ -2,6 +2,8 @@
 pub mod Decimal
 pub mod Lines
 pub mod Sizes
+pub mod Chunks
+pub mod Putting
 pub mod Printed
 pub mod LogRun
 pub mod TextOfSteps

@@ -2,18 +2,19 @@
 --     rows_of_history    the rows at any timestamp are those that the history of the steps taken lists
 --     rows_within        so there is at most one of a key
 --     scan_lists         and a scan with room for one of each key gives them all
---     run_fits           the text of the run has room in any buffer of max_text bytes
---     run_printed        and it is what the definition gives
-use Prim.Native.Nat.{ℕ, ◌*◌, ◌≤◌, zero-le}
+--     run_fits           the answers and the rows that are printed lie in their buffers
+--     run_printed        the text of the run is what the definition gives
+use Prim.Native.Nat.{ℕ, ◌*◌, ◌/◌, ◌≤◌, zero-le}
 use native.Mathlib.Omega.{arith}
 use mathlib.Core.List.{List}
 use mathlib.Core.Option.{Option, none, some}
 use mathlib.Core.Path.{◌≡◌, ap, ◌∙◌}
-use lib.ListN.{length, take, replicate, length-replicate}
+use lib.ListN.{length, take, drop, replicate, length-replicate, length-append, length-drop}
+use lib.Seq.{take_at, length-take-le}
 use borrow.Author.Tests.{le-ltb}
 use Rattle.model.specs.Limits.{keys}
 use Rattle.model.specs.State.{State, fresh}
-use Rattle.model.specs.Snapshot.{Row, rows_at, Listed, listed, scan}
+use Rattle.model.specs.Snapshot.{Row, rows_at, numbers, Listed, listed, scan}
 use Rattle.model.specs.History.{Committed, History, newest_on, put_row, row_of_newest, listing}
 use Rattle.model.specs.Isolation.{Event, events_of, after, horizon_after}
 use Rattle.model.specs.declared.Mode.{Mode}
@@ -28,10 +29,9 @@ use Rattle.common.specs.Pasting.{PastedTo}
 use Rattle.run.specs.Runs.{of_log, taken_from, Run, run_of}
 use Rattle.run.proofs.Taken.{count_fits, answers_length}
 use Rattle.run.proofs.RunState.{run_state}
-use Rattle.transcript.specs.Text.{run_room}
 use Rattle.transcript.specs.Inner.{run_text}
 use Rattle.transcript.specs.Transcript.{max_log, max_answers, max_text, transcript, printed}
-use Rattle.transcript.proofs.Lines.{rows_below}
+use Rattle.transcript.proofs.Lines.{rows_all}
 use Rattle.transcript.proofs.Printed.{text_printed}
 
 -- ---- the rows
@@ -93,7 +93,7 @@ no_numbers = replicate (3 * keys) 0
 
 -- a run from a fresh table, and a scan of the table after it at the last timestamp
 module _ (mode : Mode) (log : List ℕ) {st : State} {r : Run State} {s : Listed} (begins : st ≡ fresh mode) (runs : r ≡ run_of (of_log log) st no_answers)
-    (scanned : s ≡ scan r.state r.state.shared.last no_numbers) where
+    (scanned : s ≡ scan r.state r.state.shared.last no_numbers) (size : length s.buffer ≡ 3 * keys) where
   abbrev rows : List Row
   rows = rows_at r.state.shared r.state.shared.last
 
@@ -103,21 +103,33 @@ module _ (mode : Mode) (log : List ℕ) {st : State} {r : Run State} {s : Listed
   is_listed_lem : s ≡ listed rows no_numbers
   is_listed_lem = scanned ∙ rw is_run (scan_lists mode log no_answers _ no_numbers (omega (arith, length-replicate {A = ℕ} (3 * keys) 0)))
 
-  pub run_fits : (text : List ℕ) → max_text ≤ length text → length s.buffer ≡ 3 * keys
-      → (r.count ≤ length r.answers) × (3 * s.count ≤ length s.buffer) × (run_room r.count s.count ≤ length text)
-  run_fits text h size =
-      let places = length-replicate {A = ℕ} max_answers 0 in
+  counted : s.count ≡ length rows
+  counted = ap (λ (l : Listed). l.count) is_listed_lem
+
+  pub run_fits : (r.count ≤ length r.answers) × (3 * s.count ≤ length s.buffer)
+  run_fits =
       let count = rw (← is_run) at (count_within mode log no_answers) in
       let same = rw (← is_run) at (same_places mode log no_answers) in
       let few = rw (← is_run) at (rows_within mode log no_answers r.state.shared.last) in
-      let listed : s.count ≡ length rows = ap (λ (l : Listed). l.count) is_listed_lem in
-      (omega arith, omega arith, omega arith)
+      (omega arith, omega (arith, counted))
 
-  is_transcript : length log ≤ max_log → run_text (take r.count r.answers) r.stop r.offset s.buffer s.count ≡ transcript mode log
+  -- the numbers that the scan stored
+  stored : take (3 * s.count) s.buffer ≡ numbers rows
+  stored =
+      let few = rw (← is_run) at (rows_within mode log no_answers r.state.shared.last) in
+      let behind = drop (3 * length rows) no_numbers in
+      let whole = ap (λ (l : Listed). length l.buffer) is_listed_lem ∙ length-append (numbers rows) behind in
+      let room = length-replicate {A = ℕ} (3 * keys) 0 in
+      rw is_listed_lem (take_at (numbers rows) behind (3 * length rows) (omega (arith, length-drop (3 * length rows) no_numbers)))
+
+  is_transcript : length log ≤ max_log
+      → run_text (take r.count r.answers) r.stop r.offset (take (3 * s.count) s.buffer) (length (take (3 * s.count) s.buffer) / 3) ≡ transcript mode log
   unfolding run_text transcript
-  is_transcript short = rw (is_listed_lem, rows_below, le-ltb _ _ short, is_run)
+  is_transcript short =
+      let third : length (take (3 * s.count) s.buffer) / 3 ≡ length rows = omega (arith, counted, length-take-le (3 * s.count) s.buffer run_fits.1) in
+      rw (third, stored, rows_all, le-ltb _ _ short, is_run)
 
   pub run_printed : (text : List ℕ) {size : ℕ} {buffer : List ℕ} → max_text ≤ length text → length log ≤ max_log
-      → PastedTo text 0 (run_text (take r.count r.answers) r.stop r.offset s.buffer s.count) size buffer
+      → PastedTo text 0 (run_text (take r.count r.answers) r.stop r.offset (take (3 * s.count) s.buffer) (length (take (3 * s.count) s.buffer) / 3)) size buffer
       → record { size = size; buffer = buffer } ≡ printed mode log text
   run_printed text room short put = text_printed mode log text room (rw (is_transcript short) at put)

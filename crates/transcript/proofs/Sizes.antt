@@ -12,13 +12,13 @@ use Prim.Native.Nat.{ℕ, zero, suc, ◌+◌, ◌-◌, ◌*◌, ◌/◌, ◌^◌
 use native.Mathlib.Decide.{dec_lt}
 use native.Mathlib.Nat.{pow-succ'}
 use native.Mathlib.Omega.{arith}
-use lib.ListN.{length, take, get_or, length-append}
+use lib.ListN.{length, get_or, length-append}
 use Rattle.model.specs.Snapshot.{Row}
 use Rattle.common.proofs.ListBelow.{length_below}
 use Rattle.transcript.specs.Text.{newline, max_digits, decimal_in, decimal, field, answer_lines, stop_line, row_line, answer_room, stop_room, row_room, run_room}
 use Rattle.transcript.specs.Inner.{row_of, number_lines, run_text}
 use Rattle.transcript.proofs.Decimal.{short_in, long_in}
-use Rattle.transcript.proofs.Lines.{answers_below}
+use Rattle.transcript.proofs.Lines.{answers_all}
 
 -- ---- numbers
 most_in : (k n : ℕ) → length (decimal_in k n) ≤ suc k
@@ -53,14 +53,12 @@ unfolding field
 field_length n end = length-append (decimal n) (end ∷ [])
 
 -- ---- lines
-answers_most : (answers : List ℕ) → ((i : ℕ) → get_or answers i 0 < 256) → (count : ℕ) → count ≤ length answers
-    → length (answer_lines (take count answers)) ≤ answer_room * count
-answers_most answers bytes count all =
-    rw (← answers_below answers count all) (length_below answer_room count _ (λ i. omega (
+answers_most : (answers : List ℕ) → ((i : ℕ) → get_or answers i 0 < 256) → length (answer_lines answers) ≤ answer_room * length answers
+answers_most answers bytes =
+    rw (← answers_all answers) (length_below answer_room (length answers) _ (λ i. omega (
       arith,
       field_length (get_or answers i 0) newline,
-      byte_within (get_or answers i 0)
-          (bytes i),
+      byte_within (get_or answers i 0) (bytes i),
     )))
 
 stop_most : (stop offset : ℕ) → stop < 256 → length (stop_line stop offset) ≤ stop_room
@@ -76,8 +74,8 @@ rows_most : (ns : List ℕ) (count : ℕ) → length (number_lines ns count) ≤
 unfolding number_lines
 rows_most ns count = length_below row_room count _ (λ i. row_most (row_of ns i))
 
-pub run_most : (answers : List ℕ) (count stop offset : ℕ) (ns : List ℕ) (rows : ℕ) → ((i : ℕ) → get_or answers i 0 < 256) → count ≤ length answers → stop < 256
-    → length (run_text (take count answers) stop offset ns rows) ≤ run_room count rows
+pub run_most : (answers : List ℕ) (stop offset : ℕ) (ns : List ℕ) (rows : ℕ) → ((i : ℕ) → get_or answers i 0 < 256) → stop < 256
+    → length (run_text answers stop offset ns rows) ≤ run_room (length answers) rows
 unfolding run_text
-run_most answers count stop offset ns rows bytes all byte =
-    simp length-append (omega (arith, answers_most answers bytes count all, stop_most stop offset byte, rows_most ns rows))
+run_most answers stop offset ns rows bytes byte =
+    simp length-append (omega (arith, answers_most answers bytes, stop_most stop offset byte, rows_most ns rows))

@@ -1,8 +1,24 @@
 -- What the inner functions of the transcript promise each other.
-use Rattle.std.specs.Prelude.{ℕ, ◌+◌, ◌*◌, List, ◌++◌, get_or}
+use Rattle.std.specs.Prelude.{ℕ, ◌≡◌, ◌+◌, ◌*◌, ◌≤◌, List, ◌++◌, get_or, length}
+use Rattle.std.specs.Borrow.{MutBor}
+use denote.Triple.Both.{Both}
 use Rattle.common.specs.Counting.{list_below}
+use Rattle.common.specs.Pasting.{PastedTo}
 use Rattle.model.specs.Snapshot.{Row, row}
 use Rattle.transcript.specs.Text.{answer_lines, stop_line, row_line}
+use Rattle.transcript.specs.declared.text.Text.{Text}
+
+-- there is room for a piece behind the text
+abbrev pub HasRoom : Text → List ℕ → Type 0
+HasRoom t piece = t.at + length piece ≤ length t.buffer.now
+
+-- a call puts a piece behind the text
+pub record Put (t : Text) (piece : List ℕ) (u : Text) : Type 0 where
+  pub same_reference : u.buffer.ghost_name ≡ t.buffer.ghost_name
+  pub pasted : PastedTo t.buffer.now t.at piece u.at u.buffer.now
+
+abbrev pub Puts : Both (MutBor Text) (MutBor Text) → List ℕ → Type 0
+Puts t piece = Put t.entry.now piece t.exit.now
 
 -- row i of some numbers, three a row, as a scan stores them
 abbrev pub row_of : List ℕ → ℕ → Row

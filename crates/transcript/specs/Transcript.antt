@@ -1,5 +1,5 @@
 -- What the program prints for a log (document 01, The step log, the program; What the engine holds, its input).
-use Rattle.std.specs.Prelude.{ℕ, ◌/◌, cond, List, ◌++◌, length, take, replicate, ltb}
+use Rattle.std.specs.Prelude.{ℕ, ◌/◌, cond, List, ◌++◌, length, take, replicate, ltb, Option, Some, None}
 use Rattle.leb128.specs.Coding.{Stored}
 use Rattle.model.specs.Limits.{keys}
 use Rattle.model.specs.State.{State, fresh}
@@ -33,6 +33,11 @@ reported r =
 -- a log's text, from a fresh table of a mode; for a longer input the one line `too long`
 unfoldable pub transcript : Mode → List ℕ → List ℕ
 transcript mode log = cond (ltb max_log (length log)) too_long (reported (run_of (of_log log) (fresh mode) (replicate max_answers 0)))
+
+-- the size of a text, if one is printed
+abbrev pub size_of : Option ℕ → ℕ
+size_of (Some size) = size
+size_of None = 0
 
 -- a log's text at the start of a buffer; nothing where the buffer has not room for any text
 unfoldable pub printed : Mode → List ℕ → List ℕ → Stored

@@ -3,12 +3,13 @@
 
 mod text;
 
-ghost use Rattle.std.specs.Prelude.{◌≡◌};
-ghost use Rattle.transcript.specs.Transcript.{printed};
+ghost use Rattle.std.specs.Prelude.{◌≡◌, ◌<◌, ◌≤◌, ◌↔◌, length, IsNone, IfSome};
+ghost use Rattle.transcript.specs.Transcript.{max_text, size_of, printed};
 
 use common::Word;
 use model::limits::{KEYS, ROWS};
 use model::{Mode, Value};
+use text::Text;
 
 // The longest log that is run.
 pub const MAX_LOG: usize = 32768;
@@ -36,14 +37,18 @@ pub const MAX_TEXT: usize = ANSWER_ROOM * MAX_ANSWERS + STOP_ROOM + ROW_ROOM * K
 
 // Prints what a log's run on a fresh table of a mode gives at the start of a buffer, and gives the text's size; nothing where the buffer is shorter
 // than MAX_TEXT.
-pub fn transcribe(mode: Mode, log: &[u8], text: &mut [u8]) -> usize
-    ensures { record { size = result; buffer = text.new } ≡ printed mode log.now text.old }
+pub fn transcribe(mode: Mode, log: &[u8], buffer: &mut [u8]) -> Option<usize>
+    ensures prints { record { size = size_of result; buffer = buffer.new } ≡ printed mode log.now buffer.old }
+    ensures refuses { IsNone result ↔ length buffer.old < max_text }
+    ensures within { IfSome result (λ size. size ≤ length buffer.new) }
 {
-    if text.len() < MAX_TEXT {
-        return 0;
+    if buffer.len() < MAX_TEXT {
+        return None;
     }
+    let mut text = Text::new(buffer);
     if log.len() > MAX_LOG {
-        return text::put_bytes(text, 0, b"too long\n");
+        text.put_bytes(b"too long\n");
+        return Some(text.size());
     }
     let mut present = [false; ROWS];
     let mut values: [Value; ROWS] = [0; ROWS];
@@ -53,13 +58,8 @@ pub fn transcribe(mode: Mode, log: &[u8], text: &mut [u8]) -> usize
     let t = ran.table;
     let mut rows: [Word; MAX_NUMBERS] = [0; MAX_NUMBERS];
     let scanned = snapshot::scan(t, &present, &values, t.last as u64, &mut rows);
-    text::put_run(
-        text,
-        &answers,
-        ran.count,
-        ran.stop,
-        ran.offset,
-        &rows,
-        scanned.count,
-    )
+    let answered = &answers[..ran.count];
+    let listed = &rows[..3 * scanned.count];
+    text.put_run(answered, ran.stop, ran.offset, listed);
+    Some(text.size())
 }

@@ -1,122 +1,124 @@
-// Text into a buffer from a place on; each function gives the place behind what it stored.
-ghost use Rattle.std.specs.Prelude.{◌+◌, ◌*◌, ◌≤◌, length, take};
+// Text into a buffer, each part behind the last.
+// Printed by hand: `write!` promises its text on Ok alone and never an Ok, and what `printed` has is there wherever there is room.
+ghost use Rattle.std.specs.Prelude.{◌≡◌, ◌+◌, ◌/◌, ◌≤◌, ◌∷◌, [], length};
 ghost use Rattle.model.specs.Snapshot.{row};
-ghost use Rattle.common.specs.Pasting.{Pastes};
 ghost use Rattle.transcript.specs.Text.{decimal, field, answer_lines, stop_line, row_line, run_room};
-ghost use Rattle.transcript.specs.Inner.{number_lines, run_text};
+ghost use Rattle.transcript.specs.Inner.{HasRoom, Puts, number_lines, run_text};
 
 use common::Word;
 
-// The digit 0 in ASCII.
-const ZERO: Word = 48;
+// A buffer, and the place behind the text in it.
+#[derive(Drop)]
+pub struct Text<'b> {
+    buffer: &'b mut [u8],
+    at: usize,
+}
 
-// A number in decimal: the digits before its last, if there are any, and its last.
-fn put_decimal(text: &mut [u8], at: usize, number: Word) -> usize
-    requires { at + length (decimal number) ≤ length text.old }
-    ensures { Pastes text at (decimal number) result }
-{
-    if number < 10 {
-        text[at] = (ZERO + number) as u8;
-        return at + 1;
+impl<'b> Text<'b> {
+    // No text yet.
+    pub fn new(buffer: &'b mut [u8]) -> Text<'b>
+        ensures same_reference { result.buffer.ghost_name ≡ buffer.entry.ghost_name }
+        ensures same_bytes { result.buffer.now ≡ buffer.old }
+        ensures at_the_start { result.at ≡ 0 }
+    {
+        Text { buffer, at: 0 }
     }
-    let last = put_decimal(text, at, number / 10);
-    text[last] = (ZERO + number % 10) as u8;
-    last + 1
-}
 
-// Bytes as they are.
-pub fn put_bytes(text: &mut [u8], at: usize, bytes: &[u8]) -> usize
-    requires { at + length bytes.now ≤ length text.old }
-    ensures { Pastes text at bytes.now result }
-{
-    let mut i: usize = 0;
-    while i < bytes.len() {
-        text[at + i] = bytes[i];
-        i += 1;
+    // The size of the text.
+    pub fn size(&self) -> usize
+        ensures { result ≡ self.now.at }
+    {
+        self.at
     }
-    at + bytes.len()
-}
 
-// A number in decimal, and the byte behind it.
-fn put_field(text: &mut [u8], at: usize, number: Word, end: u8) -> usize
-    requires { at + length (field number end) ≤ length text.old }
-    ensures { Pastes text at (field number end) result }
-{
-    let next = put_decimal(text, at, number);
-    text[next] = end;
-    next + 1
-}
-
-// The first `count` answers, each on its own line.
-fn put_answers(text: &mut [u8], at: usize, answers: &[u8], count: usize) -> usize
-    requires { (count ≤ length answers.now) × (at + length (answer_lines (take count answers.now)) ≤ length text.old) }
-    ensures { Pastes text at (answer_lines (take count answers.now)) result }
-{
-    let mut next = at;
-    let mut i: usize = 0;
-    while i < count {
-        next = put_field(text, next, answers[i] as Word, b'\n');
-        i += 1;
+    // A byte as it is.
+    fn put_byte(&mut self, byte: u8)
+        requires { HasRoom self.old (byte ∷ []) }
+        ensures { Puts self (byte ∷ []) }
+    {
+        self.buffer[self.at] = byte;
+        self.at += 1;
     }
-    next
-}
 
-// The line `stop N at OFFSET`.
-fn put_stop(text: &mut [u8], at: usize, stop: u8, offset: usize) -> usize
-    requires { at + length (stop_line stop offset) ≤ length text.old }
-    ensures { Pastes text at (stop_line stop offset) result }
-{
-    let a = put_bytes(text, at, b"stop ");
-    let b = put_decimal(text, a, stop as Word);
-    let c = put_bytes(text, b, b" at ");
-    put_field(text, c, offset as Word, b'\n')
-}
-
-// The line `key value group` of a row.
-fn put_row(text: &mut [u8], at: usize, key: Word, value: Word, group: Word) -> usize
-    requires { at + length (row_line (row key value group)) ≤ length text.old }
-    ensures { Pastes text at (row_line (row key value group)) result }
-{
-    let a = put_field(text, at, key, b' ');
-    let b = put_field(text, a, value, b' ');
-    put_field(text, b, group, b'\n')
-}
-
-// The first `count` rows of some numbers, three a row, each on its own line.
-fn put_rows(text: &mut [u8], at: usize, numbers: &[Word], count: usize) -> usize
-    requires { (3 * count ≤ length numbers.now) × (at + length (number_lines numbers.now count) ≤ length text.old) }
-    ensures { Pastes text at (number_lines numbers.now count) result }
-{
-    let mut next = at;
-    let mut row: usize = 0;
-    while row < count {
-        let first = 3 * row;
-        next = put_row(
-            text,
-            next,
-            numbers[first],
-            numbers[first + 1],
-            numbers[first + 2],
-        );
-        row += 1;
+    // Bytes as they are.
+    pub fn put_bytes(&mut self, bytes: &[u8])
+        requires { HasRoom self.old bytes.now }
+        ensures { Puts self bytes.now }
+    {
+        let next = self.at + bytes.len();
+        self.buffer[self.at..next].copy_from_slice(bytes);
+        self.at = next;
     }
-    next
-}
 
-// The text of a run, from the start on: the first `count` answers, the stop, and the first `rows` rows of some numbers.
-pub fn put_run(
-    text: &mut [u8],
-    answers: &[u8],
-    count: usize,
-    stop: u8,
-    offset: usize,
-    numbers: &[Word],
-    rows: usize,
-) -> usize
-    requires { (count ≤ length answers.now) × (3 * rows ≤ length numbers.now) × (run_room count rows ≤ length text.old) }
-    ensures { Pastes text 0 (run_text (take count answers.now) stop offset numbers.now rows) result }
-{
-    let a = put_answers(text, 0, answers, count);
-    let b = put_stop(text, a, stop, offset);
-    put_rows(text, b, numbers, rows)
+    // A number in decimal: the digits before its last, if there are any, and its last.
+    fn put_decimal(&mut self, number: Word)
+        requires { HasRoom self.old (decimal number) }
+        ensures { Puts self (decimal number) }
+    {
+        if number >= 10 {
+            self.put_decimal(number / 10);
+        }
+        self.put_byte(b'0' + (number % 10) as u8);
+    }
+
+    // A number in decimal, and the byte behind it.
+    fn put_field(&mut self, number: Word, end: u8)
+        requires { HasRoom self.old (field number end) }
+        ensures { Puts self (field number end) }
+    {
+        self.put_decimal(number);
+        self.put_byte(end);
+    }
+
+    // Answers, each on its own line.
+    fn put_answers(&mut self, answers: &[u8])
+        requires { HasRoom self.old (answer_lines answers.now) }
+        ensures { Puts self (answer_lines answers.now) }
+    {
+        for &answer in answers {
+            self.put_field(answer as Word, b'\n');
+        }
+    }
+
+    // The line `stop N at OFFSET`.
+    fn put_stop(&mut self, stop: u8, offset: usize)
+        requires { HasRoom self.old (stop_line stop offset) }
+        ensures { Puts self (stop_line stop offset) }
+    {
+        self.put_bytes(b"stop ");
+        self.put_decimal(stop as Word);
+        self.put_bytes(b" at ");
+        self.put_field(offset as Word, b'\n');
+    }
+
+    // The line `key value group` of a row.
+    fn put_row(&mut self, key: Word, value: Word, group: Word)
+        requires { HasRoom self.old (row_line (row key value group)) }
+        ensures { Puts self (row_line (row key value group)) }
+    {
+        self.put_field(key, b' ');
+        self.put_field(value, b' ');
+        self.put_field(group, b'\n');
+    }
+
+    // The rows of some numbers, three a row, each on its own line.
+    fn put_rows(&mut self, numbers: &[Word])
+        requires { HasRoom self.old (number_lines numbers.now (length numbers.now / 3)) }
+        ensures { Puts self (number_lines numbers.now (length numbers.now / 3)) }
+    {
+        let (rows, _) = numbers.as_chunks::<3>();
+        for &[key, value, group] in rows {
+            self.put_row(key, value, group);
+        }
+    }
+
+    // The text of a run: its answers, its stop, and the rows of some numbers.
+    pub fn put_run(&mut self, answers: &[u8], stop: u8, offset: usize, numbers: &[Word])
+        requires { self.old.at + run_room (length answers.now) (length numbers.now / 3) ≤ length self.old.buffer.now }
+        ensures { Puts self (run_text answers.now stop offset numbers.now (length numbers.now / 3)) }
+    {
+        self.put_answers(answers);
+        self.put_stop(stop, offset);
+        self.put_rows(numbers);
+    }
 }
