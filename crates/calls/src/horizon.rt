@@ -1,8 +1,8 @@
 // Reads below the horizon, at it and above it.
-use crate::reads::run_on_fresh;
+use crate::reads::{run_on_fresh, scan_into_room};
 use model::limits::ROWS;
 use model::{Mode, Table, Value};
-use scripts::{clean, instant, point_read, scan_into};
+use scripts::{clean, instant, point_read};
 use std::io;
 use std::io::Write;
 
@@ -13,25 +13,33 @@ fn reads(
     present: &[bool; ROWS],
     values: &[Value; ROWS],
 ) -> io::Result<()> {
-    point_read(out, t, present, values, 2, 1)?;
-    point_read(out, t, present, values, 2, 32)?;
-    point_read(out, t, present, values, 0, u64::MAX)?;
-    point_read(out, t, present, values, 3, 1)?;
-    point_read(out, t, present, values, 3, 32)?;
-    point_read(out, t, present, values, 258, 2)?;
-    point_read(out, t, present, values, 4294967298, 2)?;
-    point_read(out, t, present, values, u64::MAX, 2)?;
-    scan_into(out, t, present, values, 2, &mut [9; 0])?;
-    scan_into(out, t, present, values, 2, &mut [9; 5])?;
-    scan_into(out, t, present, values, 2, &mut [9; 6])?;
-    scan_into(out, t, present, values, 3, &mut [9; 5])?;
-    scan_into(out, t, present, values, 3, &mut [9; 8])?;
-    scan_into(out, t, present, values, 258, &mut [9; 6])?;
-    scan_into(out, t, present, values, u64::MAX, &mut [9; 6])?;
-    instant(out, t, 0)?;
-    instant(out, t, 1)?;
-    instant(out, t, 2)?;
-    instant(out, t, 3)
+    for (at, key) in [
+        (2, 1),
+        (2, 32),
+        (0, u64::MAX),
+        (3, 1),
+        (3, 32),
+        (258, 2),
+        (4294967298, 2),
+        (u64::MAX, 2),
+    ] {
+        point_read(out, t, present, values, at, key)?;
+    }
+    for (at, room) in [
+        (2, 0),
+        (2, 5),
+        (2, 6),
+        (3, 5),
+        (3, 8),
+        (258, 6),
+        (u64::MAX, 6),
+    ] {
+        scan_into_room(out, t, present, values, at, room)?;
+    }
+    for at in 0..=3 {
+        instant(out, t, at)?;
+    }
+    Ok(())
 }
 
 // Key 1 = 10, then 11, in file group 1 and key 2 = 20, then 21, in group 2; cleaned at 3, where the slice of timestamp 1 is dropped.

@@ -1,4 +1,6 @@
 // The reads of a table.
+ghost use Rattle.std.specs.Prelude.{◌≤◌};
+
 use model::limits::ROWS;
 use model::{Mode, Table, Value};
 use scripts::{instant, point_read, run_printed, scan_into};
@@ -29,23 +31,43 @@ pub fn run_on_fresh(
     Ok(ran.table)
 }
 
+// A scan at a timestamp into a buffer of nines with room for so many numbers, eight at most.
+pub fn scan_into_room(
+    out: &mut impl Write,
+    t: Table,
+    present: &[bool; ROWS],
+    values: &[Value; ROWS],
+    at: u64,
+    room: usize,
+) -> io::Result<()>
+    requires { room ≤ 8 }
+{
+    scan_into(out, t, present, values, at, &mut [9; 8][..room])
+}
+
+// Point reads, among them of keys whose lowest bits are those of key 1.
 fn point_reads(
     out: &mut impl Write,
     t: Table,
     present: &[bool; ROWS],
     values: &[Value; ROWS],
 ) -> io::Result<()> {
-    point_read(out, t, present, values, 4, 1)?;
-    point_read(out, t, present, values, 2, 1)?;
-    point_read(out, t, present, values, 0, 1)?;
-    point_read(out, t, present, values, 3, 2)?;
-    point_read(out, t, present, values, 4, 2)?;
-    point_read(out, t, present, values, u64::MAX, 3)?;
-    point_read(out, t, present, values, 4, 32)?;
-    point_read(out, t, present, values, 4, 257)?;
-    point_read(out, t, present, values, 4, 65537)?;
-    point_read(out, t, present, values, 4, 4294967297)?;
-    point_read(out, t, present, values, 4, 18446744073709551615)
+    for (at, key) in [
+        (4, 1),
+        (2, 1),
+        (0, 1),
+        (3, 2),
+        (4, 2),
+        (u64::MAX, 3),
+        (4, 32),
+        (4, 257),
+        (4, 65537),
+        (4, 4294967297),
+        (4, 18446744073709551615),
+    ] {
+        point_read(out, t, present, values, at, key)?;
+    }
+    Ok(())
 }
 
 // A table with key 1 = 10, then 11, in file group 1 and key 2 = 20, then 4,294,967,317, in group 2.
@@ -71,20 +93,13 @@ pub fn reads(out: &mut impl Write) -> io::Result<()> {
 }
 
 fn all_instants(out: &mut impl Write, t: Table) -> io::Result<()> {
-    instant(out, t, 0)?;
-    instant(out, t, 1)?;
-    instant(out, t, 2)?;
-    instant(out, t, 3)?;
-    instant(out, t, 4)?;
-    instant(out, t, 5)?;
-    instant(out, t, 6)?;
-    instant(out, t, 7)?;
-    instant(out, t, 8)?;
-    instant(out, t, 128)?;
-    instant(out, t, 129)?;
-    instant(out, t, 259)?;
-    instant(out, t, 4294967299)?;
-    instant(out, t, u64::MAX)
+    for at in 0..=8 {
+        instant(out, t, at)?;
+    }
+    for at in [128, 129, 259, 4294967299, u64::MAX] {
+        instant(out, t, at)?;
+    }
+    Ok(())
 }
 
 // Timestamp 1: a remove that ends with 2. 2: started, and later too late for its group: 3. 3: committed. 4: given up behind its read.
@@ -134,16 +149,15 @@ fn room_after(out: &mut impl Write, by_steps: bool) -> io::Result<()> {
         log,
         by_steps,
     )?;
-    scan_into(out, after, &present, &values, 2, &mut [9; 0])?;
-    scan_into(out, after, &present, &values, 2, &mut [9; 5])?;
-    scan_into(out, after, &present, &values, 2, &mut [9; 6])?;
-    scan_into(out, after, &present, &values, 2, &mut [9; 8])?;
-    scan_into(out, after, &present, &values, 0, &mut [9; 2])
+    for (at, room) in [(2, 0), (2, 5), (2, 6), (2, 8), (0, 2)] {
+        scan_into_room(out, after, &present, &values, at, room)?;
+    }
+    Ok(())
 }
 
 pub fn room(out: &mut impl Write) -> io::Result<()> {
     report::title(out, b"Room for two rows")?;
     room_after(out, false)?;
-    report::text(out, b"-- step by step\n")?;
+    writeln!(out, "-- step by step")?;
     room_after(out, true)
 }

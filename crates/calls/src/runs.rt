@@ -23,27 +23,26 @@ fn in_two_runs(out: &mut impl Write, log: &[u8], by_steps: bool) -> io::Result<(
         &mut four,
         by_steps,
     )?;
-    let at = first.offset;
-    if at <= log.len() {
-        run_printed(
-            out,
-            first.table,
-            &mut present,
-            &mut values,
-            b"the rest:",
-            &log[at..],
-            &mut eight,
-            by_steps,
-        )?;
-        report::answers(out, b"all places:", &eight, 8)?;
-    }
-    Ok(())
+    let Some(rest) = log.get(first.offset..) else {
+        return Ok(());
+    };
+    run_printed(
+        out,
+        first.table,
+        &mut present,
+        &mut values,
+        b"the rest:",
+        rest,
+        &mut eight,
+        by_steps,
+    )?;
+    report::answers(out, b"all places:", &eight, 8)
 }
 
 pub fn no_place(out: &mut impl Write) -> io::Result<()> {
     let log = b"\x00\x01\x01\xac\x02\x02\x00\x03\x00\x04\x00\x05\x00\x06\x00\x07\x00\x08";
     report::title(out, b"No place for the next answer")?;
     in_two_runs(out, log, false)?;
-    report::text(out, b"-- step by step\n")?;
+    writeln!(out, "-- step by step")?;
     in_two_runs(out, log, true)
 }

@@ -1,5 +1,6 @@
 // A script is pieces in a row, each a label, a colon, a log and a semicolon; its logs have neither mark.
-ghost use Rattle.std.specs.Prelude.{◌≡◌, ◌≤◌, length, IfOk};
+ghost use Rattle.std.specs.Prelude.{◌≡◌, ◌+◌, length, IfOk};
+ghost use Rattle.std.specs.Iterator.{at_most};
 ghost use Rattle.model.specs.Calls.{state_before};
 ghost use Rattle.run.specs.Runs.{of_log, run_of};
 ghost use Rattle.run.specs.Calls.{ran};
@@ -88,20 +89,33 @@ fn shown(
     Ok(())
 }
 
-// The place behind the next mark, or the end.
-fn behind(script: &[u8], at: usize, mark: u8) -> usize
-    requires { at ≤ length script.now }
-    ensures { (at ≤ result) × (result ≤ length script.now) }
+// What stands up to a mark, with the mark, and what stands behind it. Without a mark all stands before it.
+fn split_behind(text: &[u8], mark: u8) -> (&[u8], &[u8])
+    ensures { length result.0.now + length result.1.now ≡ length text.now }
 {
-    let mut i = at;
-    while i < script.len() {
-        let byte = script[i];
-        i += 1;
-        if byte == mark {
-            return i;
-        }
+    match text.iter().position(|byte| *byte == mark) {
+        Some(at) => text.split_at(at + 1),
+        None => (text, &[]),
     }
-    i
+}
+
+// What is left of a script.
+#[derive(Clone, Copy)]
+struct Script<'a>(&'a [u8]);
+
+impl<'a> Iterator for Script<'a> {
+    type Item = (&'a [u8], &'a [u8]);
+
+    ghost remaining = { λ s. at_most (length s.0.now) };
+
+    // The next label and its log. A label without a log ends the script.
+    fn next(&mut self) -> Option<(&'a [u8], &'a [u8])> {
+        let (label, rest) = split_behind(self.0, b':');
+        let (log, rest) = split_behind(rest, b';');
+        let (_, log) = log.split_last()?;
+        self.0 = rest;
+        Some((label, log))
+    }
 }
 
 // Runs each piece of a script on the table that the last one left, and reads the table after each.
@@ -116,27 +130,8 @@ fn pieces(
     by_steps: bool,
 ) -> io::Result<()> {
     let mut t = t;
-    let mut at: usize = 0;
-    while at < script.len() {
-        let log = behind(script, at, b':');
-        let next = behind(script, log, b';');
-        // A label without a log ends the script.
-        if next == log {
-            return Ok(());
-        }
-        let end = next - 1;
-        t = piece(
-            out,
-            t,
-            present,
-            values,
-            &script[at..log],
-            &script[log..end],
-            first,
-            last,
-            by_steps,
-        )?;
-        at = next;
+    for (label, log) in Script(script) {
+        t = piece(out, t, present, values, label, log, first, last, by_steps)?;
     }
     Ok(())
 }
@@ -155,7 +150,7 @@ pub fn play(
     let mut shown = *present;
     let mut held = *values;
     pieces(out, t, &mut shown, &mut held, script, first, last, false)?;
-    report::text(out, b"-- step by step\n")?;
+    writeln!(out, "-- step by step")?;
     shown = *present;
     held = *values;
     pieces(out, t, &mut shown, &mut held, script, first, last, true)
