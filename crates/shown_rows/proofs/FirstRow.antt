@@ -13,8 +13,8 @@ use Rattle.model.specs.State.{row_in, cell}
 use Rattle.model.specs.Snapshot.{Row, shown, rows_of, first_of}
 use Rattle.model.specs.declared.Found.TheVariants.{Absent, Present}
 use Rattle.shown_rows.specs.Slices.{slice_in}
-use Rattle.shown_rows.specs.Inner.{HasPlace, has_row}
-use Rattle.shown_rows.proofs.ShownRows.{shown_place, shown_row, shown_none}
+use Rattle.shown_rows.specs.Inner.{has_row}
+use Rattle.shown_rows.proofs.ShownRows.{shown_row, shown_none}
 
 -- no file group below g shows key k
 pub record NoneBelow (slices : List ℕ) (present : List Bool) (values : List ℕ) (k g : ℕ) : Type 0 where
@@ -36,14 +36,8 @@ module _ {slices values : List ℕ} {present : List Bool} {k g : ℕ} (s : NoneB
   group_rows = shown present values (slice_in slices) k
 
   module _ (key : k < keys) (l : g < groups) where
-    pub search_place : has_row slices present k g ≡ true → HasPlace g (get_or slices g 0) k
-    search_place = shown_place slices present values key l
-
     pub search_hit : has_row slices present k g ≡ true → Present (row_in 0 values g (get_or slices g 0) k) g ≡ first_of (rows_of present values (slice_in slices) k)
     search_hit e = rw (list_rest (g + 1) groups group_rows (omega arith), list_more g group_rows, s.hidden, shown_row slices present values key l e)
 
     pub search_miss : has_row slices present k g ≡ false → NoneBelow slices present values k (g + 1)
     search_miss e = record { low = omega arith; hidden = list_more g group_rows ∙ rw (s.hidden, shown_none slices present values key l e) }
-
-  pub search_end : groups ≤ g → Absent ≡ first_of (rows_of present values (slice_in slices) k)
-  search_end l = let e : g ≡ groups = omega (arith, s.low) in rw (rw e at s.hidden)

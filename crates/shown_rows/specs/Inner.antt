@@ -5,7 +5,9 @@ use Rattle.common.specs.Counting.{list_below, sum}
 use Rattle.model.specs.Limits.{keys, groups, timestamps}
 use Rattle.model.specs.State.{row_in}
 use Rattle.model.specs.Snapshot.{Row, shown, rows_of, all_rows}
+use Rattle.common.specs.Pasting.{PastedTo}
 use Rattle.shown_rows.specs.declared.counting.KeyCounts.{KeyCounts}
+use Rattle.shown_rows.specs.declared.storing.Listing.{Listing}
 use Rattle.shown_rows.specs.Slices.{timestamp_or0, slice_in}
 
 -- the slice of file group g and timestamp n has a place for a row of key k
@@ -71,6 +73,11 @@ pub record KeyFits (slices : List ℕ) (present : List Bool) (values : List ℕ)
   pub all : count ≡ length (rows_of present values (slice_in slices) k)
   pub low : Lowest (has_row slices present k) groups lowest
   pub fits : at + 3 * count ≤ room
+
+-- a piece is stored behind what a listing holds, in the same buffer
+pub record Stores (old new : Listing) (piece : List ℕ) : Type 0 where
+  pub same_reference : new.buffer.ghost_name ≡ old.buffer.ghost_name
+  pub pasted : PastedTo old.buffer.now old.at piece new.at new.buffer.now
 
 -- what storing all rows asks
 pub record AllFit (slices : List ℕ) (present : List Bool) (values : List ℕ) (shown : KeyCounts) (room : ℕ) : Type 0 where

@@ -1,24 +1,17 @@
 // The rows that file slices show, counted for each key.
-ghost use Rattle.std.specs.Prelude.{◌≡◌, cond, ℕ, ◌≤◌, ◌<◌, ◌+◌, ◌*◌, min, get_or};
+ghost use Rattle.std.specs.Prelude.{◌≡◌, cond, ℕ, ◌≤◌, ◌<◌, ◌+◌, ◌*◌, slice_index};
 ghost use Rattle.common.specs.Counting.{sum};
 ghost use Rattle.model.specs.Limits.{keys, groups, rows};
-ghost use Rattle.shown_rows.specs.Inner.{number_of, ForKeys, SliceCounted, Counted};
+ghost use Rattle.shown_rows.specs.Inner.{ForKeys, SliceCounted, Counted};
 
-use crate::places::{has_slices, row_at};
+use crate::places::{Shown, has_slices, row_at};
 use model::limits::{GROUPS, KEYS, ROWS};
 
-// Of each key: how many file groups show it, and the lowest of them, or GROUPS.
+// Of each key: how many file groups show it, and the lowest of them, or GROUPS. Two arrays, since an array of pairs takes twice the instructions to count.
 #[derive(Clone, Copy)]
 pub struct KeyCounts {
     pub shows: [u8; KEYS],
     pub lowest: [u8; KEYS],
-}
-
-// 1 for true, 0 for false.
-fn number(b: bool) -> u8
-    ensures { (result ≡ number_of b) × (result ≤ 1) }
-{
-    if b { 1 } else { 0 }
 }
 
 // `g` for true, else GROUPS, which is above every group.
@@ -28,62 +21,44 @@ fn group_if(b: bool, g: u8) -> u8
     if b { g } else { GROUPS as u8 }
 }
 
-// The smaller of two numbers.
-fn smaller(a: u8, b: u8) -> u8
-    ensures { result ≡ min a b }
-{
-    if a < b { a } else { b }
-}
-
-// Counts the slice of a file group, whose rows stand from a place on. The loop has no exit, so that it runs on whole vectors.
-fn count_slice(
-    shows: &mut [u8; KEYS],
-    lowest: &mut [u8; KEYS],
-    present: &[bool; ROWS],
-    from: usize,
-    group: u8,
-)
-    requires { ForKeys shows.old lowest.old × (from + keys ≤ rows) × ((k : ℕ) → k < keys → get_or shows.old k 0 ≤ groups) }
-    ensures { SliceCounted present.now from group shows.old lowest.old shows.new lowest.new }
-{
-    let mut k: usize = 0;
-    while k < KEYS {
-        let here = present[from + k];
-        shows[k] += number(here);
-        lowest[k] = smaller(lowest[k], group_if(here, group));
-        k += 1;
-    }
-}
-
-// Counts the slices of all file groups. Each turn is lent the arrays: as a struct by value they would be taken apart, byte by byte, in each.
-pub fn count_slices(slices: [u8; GROUPS], present: &[bool; ROWS]) -> KeyCounts
-    ensures { Counted slices present.now groups result.shows result.lowest }
-{
-    let mut shows = [0u8; KEYS];
-    let mut lowest = [GROUPS as u8; KEYS];
-    let mut g: usize = 0;
-    while g < GROUPS {
-        let group = g;
-        let slice = slices[group];
-        g += 1;
-        if has_slices(slice) {
-            let from = row_at(group, slice, 0);
-            count_slice(&mut shows, &mut lowest, present, from, group as u8);
+impl KeyCounts {
+    // Counts the slice of a file group, whose rows stand from a place on. The loop has no exit, so that it runs on whole vectors.
+    fn count_slice(&mut self, present: &[bool; ROWS], from: usize, group: u8)
+        requires { ForKeys self.old.shows self.old.lowest × (from + keys ≤ rows) × ((k : ℕ) → k < keys → slice_index self.old.shows k ≤ groups) }
+        ensures { SliceCounted present.now from group self.old.shows self.old.lowest self.new.shows self.new.lowest }
+    {
+        for (key, &here) in present[from..from + KEYS].iter().enumerate() {
+            self.shows[key] += u8::from(here);
+            self.lowest[key] = self.lowest[key].min(group_if(here, group));
         }
     }
-    KeyCounts { shows, lowest }
+
+    // The number of all rows.
+    pub fn total(&self) -> usize
+        requires { (k : ℕ) → k < keys → slice_index self.now.shows k ≤ groups }
+        ensures { (result ≡ sum keys (λ k. slice_index self.now.shows k)) × (result ≤ groups * keys) }
+    {
+        let mut total: usize = 0;
+        for &shows in self.shows.iter() {
+            total += usize::from(shows);
+        }
+        total
+    }
 }
 
-// The number of all rows.
-pub fn total(shows: [u8; KEYS]) -> usize
-    requires { (k : ℕ) → k < keys → get_or shows k 0 ≤ groups }
-    ensures { (result ≡ sum keys (λ k. get_or shows k 0)) × (result ≤ groups * keys) }
+// Counts the slices of all file groups.
+pub fn count_slices(shown: &Shown) -> KeyCounts
+    ensures { Counted shown.now.slices shown.now.present.now groups result.shows result.lowest }
 {
-    let mut n: usize = 0;
-    let mut k: usize = 0;
-    while k < KEYS {
-        n += shows[k] as usize;
-        k += 1;
+    let mut counts = KeyCounts {
+        shows: [0; KEYS],
+        lowest: [GROUPS as u8; KEYS],
+    };
+    for (group, &slice) in shown.slices.iter().enumerate() {
+        if has_slices(slice) {
+            let from = row_at(group, slice, 0);
+            counts.count_slice(shown.present, from, group as u8);
+        }
     }
-    n
+    counts
 }

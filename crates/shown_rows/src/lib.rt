@@ -16,7 +16,7 @@ use common::Word;
 use model::answers::{NO_ROOM, TAKEN};
 use model::limits::{GROUPS, KEYS, ROWS};
 use model::{Found, Scanned, Value};
-use places::{has_row, value_at};
+use places::Shown;
 
 // A buffer without room for all rows: none is counted, and it stays as it is.
 fn no_room(buffer: &mut [Word]) -> Scanned
@@ -37,13 +37,17 @@ pub fn list(
 ) -> Scanned
     ensures { scanned result buffer ≡ listed_if_fits (all_rows present.now values.now (slice_in slices)) buffer.old }
 {
-    let counted = counting::count_slices(slices, present);
-    let shows = counted.shows;
-    let count = counting::total(shows);
+    let shown = Shown {
+        slices,
+        present,
+        values,
+    };
+    let counts = counting::count_slices(&shown);
+    let count = counts.total();
     if buffer.len() < 3 * count {
         return no_room(buffer);
     }
-    storing::store(slices, present, values, counted, buffer);
+    storing::store(&shown, &counts, buffer);
     Scanned {
         answer: TAKEN,
         count,
@@ -62,16 +66,18 @@ pub fn first_row(
     if key >= KEYS {
         return Found::Absent;
     }
-    let mut group: usize = 0;
-    while group < GROUPS {
-        let slice = slices[group];
-        if has_row(present, group, slice, key) {
+    let shown = Shown {
+        slices,
+        present,
+        values,
+    };
+    for group in 0..GROUPS {
+        if shown.has_row(group, key) {
             return Found::Present {
-                value: value_at(values, group, slice, key),
+                value: shown.value_at(group, key),
                 group: group as u8,
             };
         }
-        group += 1;
     }
     Found::Absent
 }

@@ -1,9 +1,8 @@
 // Where the rows of file slices stand, and what stands there.
-ghost use Rattle.std.specs.Prelude.{◌≡◌, false, ◌<◌};
+ghost use Rattle.std.specs.Prelude.{◌≡◌, ◌<◌, slice_index};
 ghost use Rattle.model.specs.Limits.{keys, groups, rows};
 ghost use Rattle.model.specs.State.{row_at, row_in};
-ghost use Rattle.shown_rows.specs.Slices.{timestamp_or0};
-ghost use Rattle.shown_rows.specs.Inner.{HasPlace, SliceTested};
+ghost use Rattle.shown_rows.specs.Inner.{HasPlace, SliceTested, has_row};
 
 use model::Value;
 use model::limits::{GROUPS, KEYS, ROWS, TIMESTAMPS};
@@ -20,27 +19,32 @@ pub fn row_at(group: usize, ts: u8, key: usize) -> usize
 pub fn has_slices(ts: u8) -> bool
     ensures { SliceTested result ts }
 {
-    if ts == 0 {
-        return false;
-    }
-    ts as usize <= TIMESTAMPS
+    0 < ts && ts as usize <= TIMESTAMPS
 }
 
-// Has the slice of a file group and a timestamp a row of the key?
-pub fn has_row(present: &[bool; ROWS], group: usize, ts: u8, key: usize) -> bool
-    requires { (group < groups) × (key < keys) }
-    ensures { result ≡ row_in false present.now group (timestamp_or0 ts) key }
-{
-    if has_slices(ts) {
-        return present[row_at(group, ts, key)];
-    }
-    false
+// The file slices that are given, and the rows of all slices.
+#[derive(Clone, Copy)]
+pub struct Shown<'a> {
+    pub slices: [u8; GROUPS],
+    pub present: &'a [bool; ROWS],
+    pub values: &'a [Value; ROWS],
 }
 
-// The value of the row of a key in the slice of a file group and a timestamp.
-pub fn value_at(values: &[Value; ROWS], group: usize, ts: u8, key: usize) -> Value
-    requires { HasPlace group ts key }
-    ensures { result ≡ row_in 0 values.now group ts key }
-{
-    values[row_at(group, ts, key)]
+impl Shown<'_> {
+    // Has the slice of a file group a row of the key?
+    pub fn has_row(&self, group: usize, key: usize) -> bool
+        requires { (group < groups) × (key < keys) }
+        ensures { result ≡ has_row self.now.slices self.now.present.now key group }
+    {
+        let ts = self.slices[group];
+        has_slices(ts) && self.present[row_at(group, ts, key)]
+    }
+
+    // The value of the row of a key in the slice of a file group.
+    pub fn value_at(&self, group: usize, key: usize) -> Value
+        requires { HasPlace group (slice_index self.now.slices group) key }
+        ensures { result ≡ row_in 0 self.now.values.now group (slice_index self.now.slices group) key }
+    {
+        self.values[row_at(group, self.slices[group], key)]
+    }
 }

@@ -1,122 +1,73 @@
 // The rows that file slices show, stored by rising key and file group, three numbers each.
-ghost use Rattle.std.specs.Prelude.{◌≡◌, [], ◌∷◌, ◌≤◌, ◌+◌, length};
-ghost use Rattle.common.specs.Pasting.{pasted, Pastes};
+ghost use Rattle.std.specs.Prelude.{◌≡◌, [], ◌∷◌, ◌≤◌, ◌+◌, length, slice_index};
+ghost use Rattle.common.specs.Pasting.{pasted};
 ghost use Rattle.model.specs.State.{row_in};
 ghost use Rattle.model.specs.Snapshot.{row, rows_of, all_rows, numbers};
 ghost use Rattle.shown_rows.specs.Slices.{slice_in};
-ghost use Rattle.shown_rows.specs.Inner.{HasPlace, rows_from, OthersFit, KeyFits, AllFit};
+ghost use Rattle.shown_rows.specs.Inner.{HasPlace, rows_from, OthersFit, KeyFits, AllFit, Stores};
 
 use crate::counting::KeyCounts;
-use crate::places::{has_row, value_at};
+use crate::places::Shown;
 use common::Word;
-use model::Value;
-use model::limits::{GROUPS, KEYS, ROWS};
+use model::limits::{GROUPS, KEYS};
 
-// Stores the row of a key in the slice of a file group and a timestamp from a place on, and gives the place behind it.
-fn store_row(
-    values: &[Value; ROWS],
-    group: usize,
-    ts: u8,
-    key: usize,
-    buffer: &mut [Word],
-    at: usize,
-) -> usize
-    requires { HasPlace group ts key × (at + 3 ≤ length buffer.old) }
-    ensures { Pastes buffer at (numbers (row key (row_in 0 values.now group ts key) group ∷ [])) result }
-{
-    buffer[at] = key as Word;
-    buffer[at + 1] = value_at(values, group, ts, key);
-    buffer[at + 2] = group as Word;
-    at + 3
+// A lent buffer, and the place behind what is stored in it.
+#[derive(Drop)]
+pub struct Listing<'b> {
+    pub buffer: &'b mut [Word],
+    pub at: usize,
 }
 
-// Stores the rows that the file groups from `from` on show of a key, of which there are so many, and gives the place behind them.
-fn store_others(
-    slices: [u8; GROUPS],
-    present: &[bool; ROWS],
-    values: &[Value; ROWS],
-    key: usize,
-    from: usize,
-    count: u8,
-    buffer: &mut [Word],
-    at: usize,
-) -> usize
-    requires { OthersFit slices present.now values.now key from count at (length buffer.old) }
-    ensures { Pastes buffer at (numbers (rows_from present.now values.now (slice_in slices) key from)) result }
-{
-    let mut left = count;
-    let mut g = from;
-    let mut next = at;
-    while 0 < left {
-        let group = g;
-        let slice = slices[group];
-        g += 1;
-        if has_row(present, group, slice, key) {
-            next = store_row(values, group, slice, key, &mut *buffer, next);
-            left -= 1;
+impl Listing<'_> {
+    // Stores the row of a key in the slice of a file group.
+    fn store_row(&mut self, shown: &Shown, group: usize, key: usize)
+        requires { HasPlace group (slice_index shown.now.slices group) key × (self.old.at + 3 ≤ length self.old.buffer.now) }
+        ensures { Stores self.old self.new (numbers (row key (row_in 0 shown.now.values.now group (slice_index shown.now.slices group) key) group ∷ [])) }
+    {
+        self.buffer[self.at] = key as Word;
+        self.buffer[self.at + 1] = shown.value_at(group, key);
+        self.buffer[self.at + 2] = group as Word;
+        self.at += 3;
+    }
+
+    // Stores the rows that the file groups from `from` on show of a key, of which there are so many.
+    fn store_others(&mut self, shown: &Shown, key: usize, from: usize, count: u8)
+        requires { OthersFit shown.now.slices shown.now.present.now shown.now.values.now key from count self.old.at (length self.old.buffer.now) }
+        ensures { Stores self.old self.new (numbers (rows_from shown.now.present.now shown.now.values.now (slice_in shown.now.slices) key from)) }
+    {
+        let mut left = count;
+        for group in from..GROUPS {
+            if left == 0 {
+                return;
+            }
+            if shown.has_row(group, key) {
+                self.store_row(shown, group, key);
+                left -= 1;
+            }
         }
     }
-    next
-}
 
-// Stores the rows of a key, and gives the place behind them. The first stands in the lowest group that shows the key: only others are looked for.
-fn store_key(
-    slices: [u8; GROUPS],
-    present: &[bool; ROWS],
-    values: &[Value; ROWS],
-    key: usize,
-    count: u8,
-    lowest: u8,
-    buffer: &mut [Word],
-    at: usize,
-) -> usize
-    requires { KeyFits slices present.now values.now key count lowest at (length buffer.old) }
-    ensures { Pastes buffer at (numbers (rows_of present.now values.now (slice_in slices) key)) result }
-{
-    if count == 0 {
-        return at;
+    // Stores the rows of a key. The first stands in the lowest group that shows the key: only others are looked for.
+    fn store_key(&mut self, shown: &Shown, key: usize, count: u8, lowest: u8)
+        requires { KeyFits shown.now.slices shown.now.present.now shown.now.values.now key count lowest self.old.at (length self.old.buffer.now) }
+        ensures { Stores self.old self.new (numbers (rows_of shown.now.present.now shown.now.values.now (slice_in shown.now.slices) key)) }
+    {
+        if count == 0 {
+            return;
+        }
+        let first = lowest as usize;
+        self.store_row(shown, first, key);
+        self.store_others(shown, key, first + 1, count - 1);
     }
-    let first = lowest as usize;
-    let slice = slices[first];
-    let next = store_row(values, first, slice, key, &mut *buffer, at);
-    store_others(
-        slices,
-        present,
-        values,
-        key,
-        first + 1,
-        count - 1,
-        &mut *buffer,
-        next,
-    )
 }
 
 // Stores all rows from the beginning on.
-pub fn store(
-    slices: [u8; GROUPS],
-    present: &[bool; ROWS],
-    values: &[Value; ROWS],
-    shown: KeyCounts,
-    buffer: &mut [Word],
-)
-    requires { AllFit slices present.now values.now shown (length buffer.old) }
-    ensures { buffer.new ≡ pasted buffer.old 0 (numbers (all_rows present.now values.now (slice_in slices))) }
+pub fn store(shown: &Shown, counts: &KeyCounts, buffer: &mut [Word])
+    requires { AllFit shown.now.slices shown.now.present.now shown.now.values.now counts.now (length buffer.old) }
+    ensures { buffer.new ≡ pasted buffer.old 0 (numbers (all_rows shown.now.present.now shown.now.values.now (slice_in shown.now.slices))) }
 {
-    let shows = shown.shows;
-    let lowest = shown.lowest;
-    let mut at: usize = 0;
-    let mut k: usize = 0;
-    while k < KEYS {
-        at = store_key(
-            slices,
-            present,
-            values,
-            k,
-            shows[k],
-            lowest[k],
-            &mut *buffer,
-            at,
-        );
-        k += 1;
+    let mut listing = Listing { buffer, at: 0 };
+    for key in 0..KEYS {
+        listing.store_key(shown, key, counts.shows[key], counts.lowest[key]);
     }
 }

@@ -6,16 +6,14 @@ use Rattle.shown_rows.proofs.ListedRows.{all_fit, list_full, list_done}
 use Rattle.shown_rows.proofs.list.Goals as goal
 
 pub total-count-requires : goal.total-count-requires
-total-count-requires c = counted_le _ _ c.count_slices-counted.ensures (omega arith)
+total-count-requires c = counted_le _ _ c.count_slices-counts.ensures (omega arith)
 
 pub returns-then-buffer-count : goal.returns-then-buffer-count
 returns-then-buffer-count c =
-    c.no_room.ensures ∙ list_full _ _ _ c.count_slices-counted.ensures c.total-count.ensures.0 _ c.if-buffer-count.true
+    c.no_room.ensures ∙ list_full _ _ _ c.count_slices-counts.ensures c.total-count.ensures.0 _ c.if-buffer-count.true
 
 pub store-requires : goal.store-requires
-store-requires c =
-    all_fit _ _ _ c.count_slices-counted.ensures c.total-count.ensures.0 c.if-buffer-count.false
+store-requires c = all_fit _ _ _ c.count_slices-counts.ensures c.total-count.ensures.0 c.if-buffer-count.false
 
 pub returns : goal.returns
-returns c =
-    list_done _ _ _ c.count_slices-counted.ensures c.total-count.ensures.0 _ c.if-buffer-count.false c.store.ensures
+returns c = list_done _ _ _ c.count_slices-counts.ensures c.total-count.ensures.0 _ c.if-buffer-count.false c.store.ensures

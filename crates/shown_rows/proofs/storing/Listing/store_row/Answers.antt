@@ -1,26 +1,24 @@
--- `store_row` meets its contract: three stores keep the buffer's length, and are the row's numbers.
+-- `store_row` meets its contract: three stores are the row's numbers, in the same buffer.
 use Prim.Native.Nat.{ℕ, ◌+◌, ◌≤◌}
 use native.Mathlib.Numerals.{towards_suc}
 use native.Mathlib.Omega.{arith}
-use mathlib.Core.Path.{◌≡◌, ◌∙◌}
+use mathlib.Core.Path.{◌≡◌, refl, ◌∙◌}
 use mathlib.Core.List.{List, [], ◌∷◌, append_assoc}
-use lib.ListN.{length, set, length-set}
+use lib.ListN.{length, set}
 use lib.Seq.{sets-eq}
 use Rattle.common.specs.Pasting.{pasted}
 use Rattle.model.specs.Snapshot.{row, numbers}
-use Rattle.shown_rows.proofs.storing.store_row.Goals as goal
+use Rattle.shown_rows.proofs.storing.Listing.store_row.Goals as goal
 
 row-pasted : (buffer : List ℕ) (at k v g : ℕ) → at + 3 ≤ length buffer
     → set (set (set buffer at k) (at + 1) v) (at + 2) g ≡ pasted buffer at (numbers (row k v g ∷ []))
 unfolding numbers pasted
 row-pasted buffer at k v g h = simp towards_suc (sets-eq (k ∷ v ∷ g ∷ []) buffer at h ∙ simp (append_assoc, towards_suc))
 
-pub bounds-buffer-at-2 : goal.bounds-buffer-at-2
-bounds-buffer-at-2 c = simp length-set (omega arith)
-
-pub bounds-buffer-at-3 : goal.bounds-buffer-at-3
-bounds-buffer-at-3 c = simp length-set (omega arith)
-
 pub returns : goal.returns
 unfolding numbers
-returns c = (omega arith, rw (← c.value_at.ensures) (row-pasted _ _ _ _ _ c.requires.1))
+returns c =
+    record {
+      same_reference = refl;
+      pasted = (omega arith, rw (← c.value_at.ensures) (row-pasted _ _ _ _ _ c.requires.1));
+    }
