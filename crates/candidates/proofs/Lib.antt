@@ -1,3 +1,2 @@
 -- The laws of `candidates`; a module uses only those before it.
 pub mod ListLoop
-pub mod Answers

@@ -24,6 +24,7 @@ use native.Mathlib.Omega.{arith}
 use lib.Dec.{eqb, leb}
 use lib.ListN.{length, get_or-eq_default}
 use borrow.Author.Tests.{leb-true, leb-false, eqb-true, eqb-false, lt-leb, le-ltb}
+use Rattle.std.specs.Prelude.{Ok}
 use Rattle.model.specs.Limits.{keys}
 use Rattle.model.specs.State.{State, cell, newest, fresh}
 use Rattle.model.specs.Rules.{key_of, entry_of, Answered, writer_of, step_tested, step}
@@ -66,7 +67,7 @@ in_progress_lem mode es w =
     )
 
 pub point_read_listed : (mode : Mode) (es : List Event) (t k : ℕ) → horizon_after mode es ≤ t → k < keys
-    → point_read (after mode es).state t k ≡ first_of (row_of_newest (newest_on (after mode es).history.done k t))
+    → point_read (after mode es).state t k ≡ Ok (first_of (row_of_newest (newest_on (after mode es).history.done k t)))
 unfolding point_read
 point_read_listed mode es t k past small =
     rw ((reached mode es).ranged, le-ltb _ _ past, lt-leb keys k small, rows_of_lem (after mode es) (reached mode es) t past k small)
@@ -106,7 +107,7 @@ committed_key mode es c m =
     omega (arith, outside, (h.invariant.committed c m).indexed)) (leb-false keys k)
 
 pub instant_completed : (mode : Mode) (es : List Event) (c : Committed) → Memᴰ c (after mode es).history.done
-    → instant_at (after mode es).state c.ts ≡ Completed c.group
+    → instant_at (after mode es).state c.ts ≡ Ok (Completed c.group)
 instant_completed mode es c m =
     let h = reached mode es in
     completed_given (after mode es).state c.ts c.group h.ranged (group_completed_lem _ c.group (h.invariant.committed c m).completed)

@@ -14,7 +14,6 @@ use Rattle.model.specs.History.{Pending, Committed, History}
 use Rattle.model.specs.Isolation.{Event, after}
 use Rattle.model.specs.declared.Mode.{Mode}
 use Rattle.model.specs.declared.InstantList.{InstantList}
-use Rattle.model.specs.declared.Candidates.{Candidates}
 
 -- the completed timestamps of which a test holds, rising
 abbrev pub completed_that : List ℕ → (ℕ → Bool) → List ℕ
@@ -46,12 +45,18 @@ by_completion timeline places count = completed_that timeline (placed_above plac
 abbrev pub filled : List ℕ → InstantList
 filled l = record { count = length l; timestamps = l ++ replicate (timestamps - length l) 0 }
 
+-- what the call gives: its answer, and the list of each way
+pub record Chosen : Type 0 where
+  pub answer : ℕ
+  pub by_start : InstantList
+  pub by_completion : InstantList
+
 -- refused: all places and counts are 0
-abbrev pub no_candidates : ℕ → Candidates
+abbrev pub no_candidates : ℕ → Chosen
 no_candidates n = record { answer = n; by_start = filled []; by_completion = filled [] }
 
 -- both lists of the operation of writer w
-abbrev pub both_ways : State → ℕ → Candidates
+abbrev pub both_ways : State → ℕ → Chosen
 both_ways st w =
     record {
       answer = taken;
@@ -60,7 +65,7 @@ both_ways st w =
     }
 
 -- the call is refused with 17, then with 10, then with 14 where the writer has no operation in progress
-unfoldable pub candidates : State → ℕ → Candidates
+unfoldable pub candidates : State → ℕ → Chosen
 candidates st w =
     cond (not (in_range st)) (no_candidates out_of_range)
     (cond (leb writers w) (no_candidates no_writer) (cond (eqb (writer_of st w).phase 0) (no_candidates wrong_phase) (both_ways st w)))
@@ -72,7 +77,7 @@ pub record CommittedAt (h : History) (s : ℕ) : Type 0 where
   pub ts : operation.ts ≡ s
 
 -- the call is not refused, its two lists and counts are the same, and what they have are committed operations
-pub record Agreeing (h : History) (c : Candidates) : Type 0 where
+pub record Agreeing (h : History) (c : Chosen) : Type 0 where
   pub answer : c.answer ≡ taken
   pub same : c.by_start ≡ c.by_completion
   pub committed : (s : ℕ) → 0 < s → Memᴰ s c.by_completion.timestamps → CommittedAt h s

@@ -1,6 +1,6 @@
 -- Demand 3 of document 00, over the history (document 01, The book behind demand 3), as document 02, Q-13 has it: the statement. The theorem is
 -- `isolated` in proofs/Isolation.antt.
-use Rattle.std.specs.Prelude.{ℕ, ◌*◌, ◌≤◌, ◌<◌, ◌≡◌, Bool, true, false, cond, ◌&&◌, length, eqb}
+use Rattle.std.specs.Prelude.{ℕ, ◌*◌, ◌≤◌, ◌<◌, ◌≡◌, Bool, true, false, cond, ◌&&◌, length, eqb, Result, Ok, Err}
 use mathlib.Core.List.{List, ◌++◌, map, foldl, Memᴰ}
 use Rattle.std.proofs.Math.Option.{Option, none, some}
 use Rattle.model.specs.Answers.{taken}
@@ -10,21 +10,22 @@ use Rattle.model.specs.Rules.{Answered, writer_of, step}
 use Rattle.model.specs.Snapshot.{scan, listed, instant_at}
 use Rattle.model.specs.Cleaning.{clean}
 use Rattle.model.specs.History.{Pending, Committed, History, empty, recorded, listing}
+use Rattle.model.specs.declared.answers.Refusal.{Refusal}
 use Rattle.model.specs.declared.Action.{Action}
 use Rattle.model.specs.declared.Action.TheVariants.{Start, LookUp, Read, Write, Index, Check, Commit, Abort}
 use Rattle.model.specs.declared.Mode.{Mode}
 use Rattle.model.specs.declared.Writer.{Writer}
 use Rattle.model.specs.declared.InstantState.{InstantState}
-use Rattle.model.specs.declared.InstantState.TheVariants.{Refused, None, Requested, Inflight, Completed}
+use Rattle.model.specs.declared.InstantState.TheVariants.{None, Requested, Inflight, Completed}
 use Rattle.model.specs.declared.Step.{Step}
 
 -- the file group that the instant call gives, or 0 where it gives none; asked after a commit alone, where it gives a completed instant's
-abbrev pub group_given : InstantState → ℕ
-group_given (Refused n) = 0
-group_given None = 0
-group_given Requested = 0
-group_given (Inflight g) = g
-group_given (Completed g) = g
+abbrev pub group_given : Result InstantState Refusal → ℕ
+group_given (Err e) = 0
+group_given (Ok None) = 0
+group_given (Ok Requested) = 0
+group_given (Ok (Inflight g)) = g
+group_given (Ok (Completed g)) = g
 
 -- what happens to a table: a step of a writer, or a clean at a timestamp
 pub data Event : Type 0 where

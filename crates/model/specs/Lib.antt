@@ -4,6 +4,7 @@ pub mod State
 pub mod Notes
 pub mod Rules
 pub mod Answers
+pub mod Refusals
 pub mod Range
 pub mod Snapshot
 pub mod Cleaning

@@ -1,4 +1,8 @@
-// The answer numbers of document 01, and 18, 19 and 32 to 34 of document 02; specs/Answers.antt has the same.
+// The answer numbers of document 01, and 18, 19 and 32 to 34 of document 02; specs/Answers.antt has the same. The answers of steps stay bytes: `rules::act`,
+// `notes::note` and `verdicts::carry_out` promise what they do for every number, and a run stores its answers as bytes in a lent buffer.
+ghost use Rattle.std.specs.Prelude.{◌≡◌};
+ghost use Rattle.model.specs.Refusals.{refusal_number};
+
 pub const TAKEN: u8 = 0;
 
 pub const COMMITTED: u8 = 1;
@@ -38,3 +42,34 @@ pub const BELOW_HORIZON: u8 = 32;
 pub const BASE_NEEDED: u8 = 33;
 
 pub const NO_HORIZON: u8 = 34;
+
+// Why a call other than a step gives no result.
+#[derive(Clone, Copy, PartialEq, Eq, Debug)]
+pub enum Refusal {
+    NoWriter,
+    NoKey,
+    WrongPhase,
+    OutOfRange,
+    NoRoom,
+    BelowHorizon,
+    BaseNeeded,
+    NoHorizon,
+}
+
+// The answer number of a refusal.
+impl From<Refusal> for u8 {
+    ghost from_gives = { λ refusal n. n ≡ refusal_number refusal };
+
+    fn from(refusal: Refusal) -> u8 {
+        match refusal {
+            Refusal::NoWriter => NO_WRITER,
+            Refusal::NoKey => NO_KEY,
+            Refusal::WrongPhase => WRONG_PHASE,
+            Refusal::OutOfRange => OUT_OF_RANGE,
+            Refusal::NoRoom => NO_ROOM,
+            Refusal::BelowHorizon => BELOW_HORIZON,
+            Refusal::BaseNeeded => BASE_NEEDED,
+            Refusal::NoHorizon => NO_HORIZON,
+        }
+    }
+}

@@ -97,22 +97,14 @@ pub struct Stepped {
     pub table: Table,
 }
 
-// The answer to a scan, and the number of rows stored.
-#[derive(Clone, Copy)]
-pub struct Scanned {
-    pub answer: u8,
-    pub count: usize,
+// The row of a key that a point read finds.
+#[derive(Clone, Copy, PartialEq, Eq, Debug)]
+pub struct Found {
+    pub value: Value,
+    pub group: u8,
 }
 
-// What a point read finds.
-#[derive(Clone, Copy)]
-pub enum Found {
-    Refused(u8),
-    Absent,
-    Present { value: Value, group: u8 },
-}
-
-// Instants by rising timestamp: how many, and their timestamps; the unused places are 0.
+// Instants by rising timestamp: how many, and their timestamps; the unused places are 0. A count beside its array: fixed memory, no heap.
 #[derive(Clone, Copy)]
 pub struct InstantList {
     pub count: u8,
@@ -122,7 +114,6 @@ pub struct InstantList {
 // The candidates of a commit, chosen in two ways: by the starts of the instants and by their completions.
 #[derive(Clone, Copy)]
 pub struct Candidates {
-    pub answer: u8,
     pub by_start: InstantList,
     pub by_completion: InstantList,
 }
@@ -130,7 +121,6 @@ pub struct Candidates {
 // The state of an instant, with its file group from inflight on.
 #[derive(Clone, Copy)]
 pub enum InstantState {
-    Refused(u8),
     None,
     Requested,
     Inflight(u8),

@@ -1,5 +1,6 @@
 // Printing the candidate instants of a writer, and the numbers that they rest on.
 use common::Word;
+use model::answers::{Refusal, TAKEN};
 use model::{Candidates, InstantList, Table};
 use std::io;
 use std::io::Write;
@@ -18,18 +19,22 @@ fn list(out: &mut impl Write, instants: InstantList) -> io::Result<()> {
     Ok(())
 }
 
-// What the call for a writer gave: the answer, and the list of each way.
+// What the call for a writer gave: the answer, and the list of each way; a refusal has two empty lists.
 pub fn chosen(
     out: &mut impl Write,
     label: &[u8],
     writer: Word,
-    found: Candidates,
+    found: Result<Candidates, Refusal>,
 ) -> io::Result<()> {
-    let answer = found.answer;
     out.write_all(label)?;
-    write!(out, "{writer}: {answer}")?;
-    list(out, found.by_start)?;
-    list(out, found.by_completion)?;
+    match found {
+        Err(refusal) => write!(out, "{writer}: {} | 0: | 0:", u8::from(refusal))?,
+        Ok(candidates) => {
+            write!(out, "{writer}: {TAKEN}")?;
+            list(out, candidates.by_start)?;
+            list(out, candidates.by_completion)?;
+        }
+    }
     writeln!(out)
 }
 

@@ -1,6 +1,7 @@
 // The two forms in which is told what a read gave: in words, where a line tells one read, and in signs, where it tells many.
 use crate::rows;
-use model::{Found, InstantState, Scanned, Value};
+use model::answers::Refusal;
+use model::{Found, InstantState, Value};
 use std::io;
 use std::io::Write;
 
@@ -40,34 +41,50 @@ pub const SIGNS: Form = Form {
 };
 
 impl Form {
+    // A refusal, by its number.
+    fn refusal(self, out: &mut impl Write, refusal: Refusal) -> io::Result<()> {
+        write!(out, "{}{}", self.refused, u8::from(refusal))
+    }
+
     // What a scan gave.
-    pub fn listing(self, out: &mut impl Write, found: Scanned, buffer: &[Value]) -> io::Result<()> {
-        if found.answer != 0 {
-            return write!(out, "{}{}", self.refused, found.answer);
+    pub fn listing(
+        self,
+        out: &mut impl Write,
+        found: Result<usize, Refusal>,
+        buffer: &[Value],
+    ) -> io::Result<()> {
+        match found {
+            Err(refusal) => self.refusal(out, refusal),
+            Ok(0) => write!(out, "{}", self.no_rows),
+            Ok(count) => rows(out, buffer, count),
         }
-        if found.count == 0 {
-            return write!(out, "{}", self.no_rows);
-        }
-        rows(out, buffer, found.count)
     }
 
     // What a point read gave.
-    pub fn found(self, out: &mut impl Write, found: Found) -> io::Result<()> {
+    pub fn found(
+        self,
+        out: &mut impl Write,
+        found: Result<Option<Found>, Refusal>,
+    ) -> io::Result<()> {
         match found {
-            Found::Refused(answer) => write!(out, "{}{answer}", self.refused),
-            Found::Absent => write!(out, "{}", self.absent),
-            Found::Present { value, group } => write!(out, " {value}{}{group}", self.in_group),
+            Err(refusal) => self.refusal(out, refusal),
+            Ok(None) => write!(out, "{}", self.absent),
+            Ok(Some(Found { value, group })) => write!(out, " {value}{}{group}", self.in_group),
         }
     }
 
     // The state of an instant.
-    pub fn instant(self, out: &mut impl Write, state: InstantState) -> io::Result<()> {
+    pub fn instant(
+        self,
+        out: &mut impl Write,
+        state: Result<InstantState, Refusal>,
+    ) -> io::Result<()> {
         match state {
-            InstantState::Refused(answer) => write!(out, "{}{answer}", self.refused),
-            InstantState::None => write!(out, "{}", self.no_instant),
-            InstantState::Requested => write!(out, "{}", self.requested),
-            InstantState::Inflight(group) => write!(out, "{}{group}", self.inflight),
-            InstantState::Completed(group) => write!(out, "{}{group}", self.completed),
+            Err(refusal) => self.refusal(out, refusal),
+            Ok(InstantState::None) => write!(out, "{}", self.no_instant),
+            Ok(InstantState::Requested) => write!(out, "{}", self.requested),
+            Ok(InstantState::Inflight(group)) => write!(out, "{}{group}", self.inflight),
+            Ok(InstantState::Completed(group)) => write!(out, "{}{group}", self.completed),
         }
     }
 }

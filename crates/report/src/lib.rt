@@ -7,7 +7,8 @@ mod forms;
 pub use choices::{chosen, noted};
 use common::Word;
 pub use forms::{Form, SIGNS, WORDS};
-use model::{Found, InstantState, Scanned, Value};
+use model::answers::{Refusal, TAKEN};
+use model::{Found, InstantState, Value};
 use std::io;
 use std::io::Write;
 
@@ -86,7 +87,12 @@ fn rows(out: &mut impl Write, buffer: &[Value], count: usize) -> io::Result<()> 
 }
 
 // What a scan at a timestamp gave.
-pub fn listing(out: &mut impl Write, at: u64, found: Scanned, buffer: &[Value]) -> io::Result<()> {
+pub fn listing(
+    out: &mut impl Write,
+    at: u64,
+    found: Result<usize, Refusal>,
+    buffer: &[Value],
+) -> io::Result<()> {
     write!(out, "at {at}:")?;
     WORDS.listing(out, found, buffer)?;
     writeln!(out)
@@ -98,8 +104,15 @@ pub fn cleaned(out: &mut impl Write, at: u64, answer: u8) -> io::Result<()> {
 }
 
 // What a scan into a buffer gave, and the whole buffer.
-pub fn scanned(out: &mut impl Write, found: Scanned, buffer: &[Value]) -> io::Result<()> {
-    let Scanned { answer, count } = found;
+pub fn scanned(
+    out: &mut impl Write,
+    found: Result<usize, Refusal>,
+    buffer: &[Value],
+) -> io::Result<()> {
+    let (answer, count) = match found {
+        Err(refusal) => (u8::from(refusal), 0),
+        Ok(count) => (TAKEN, count),
+    };
     let room = buffer.len();
     write!(out, "room for {room}: answer {answer}, {count} rows:")?;
     rows(out, buffer, room)?;
@@ -123,14 +136,23 @@ pub fn written(
 }
 
 // What a point read of a key at a timestamp gave.
-pub fn found(out: &mut impl Write, key: Word, at: u64, found: Found) -> io::Result<()> {
+pub fn found(
+    out: &mut impl Write,
+    key: Word,
+    at: u64,
+    found: Result<Option<Found>, Refusal>,
+) -> io::Result<()> {
     write!(out, "key {key} at {at}:")?;
     WORDS.found(out, found)?;
     writeln!(out)
 }
 
 // The state of the instant of a timestamp.
-pub fn instant(out: &mut impl Write, at: u64, state: InstantState) -> io::Result<()> {
+pub fn instant(
+    out: &mut impl Write,
+    at: u64,
+    state: Result<InstantState, Refusal>,
+) -> io::Result<()> {
     write!(out, "instant {at}:")?;
     WORDS.instant(out, state)?;
     writeln!(out)

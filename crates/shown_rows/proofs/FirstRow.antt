@@ -1,4 +1,5 @@
 -- The first row of a key: `NoneBelow` is the invariant of the search up the file groups.
+use Rattle.std.specs.Prelude.{Option, Some, None}
 use Prim.Native.Nat.{ℕ, ◌+◌, ◌<◌, ◌≤◌}
 use native.Mathlib.Omega.{arith}
 use mathlib.Core.Bool.{Bool, true, false}
@@ -11,7 +12,7 @@ use Rattle.common.proofs.ListBelow.{none_below, list_more, list_rest}
 use Rattle.model.specs.Limits.{keys, groups}
 use Rattle.model.specs.State.{row_in, cell}
 use Rattle.model.specs.Snapshot.{Row, shown, rows_of, first_of}
-use Rattle.model.specs.declared.Found.TheVariants.{Absent, Present}
+use Rattle.model.specs.declared.Found.{Found}
 use Rattle.shown_rows.specs.Slices.{slice_in}
 use Rattle.shown_rows.specs.Inner.{has_row}
 use Rattle.shown_rows.proofs.ShownRows.{shown_row, shown_none}
@@ -22,7 +23,7 @@ pub record NoneBelow (slices : List ℕ) (present : List Bool) (values : List �
   pub hidden : list_below g (shown present values (slice_in slices) k) ≡ []
 
 -- a key past the last has no row
-pub no_key : (slices values : List ℕ) (present : List Bool) {k : ℕ} → keys ≤ k → Absent ≡ first_of (rows_of present values (slice_in slices) k)
+pub no_key : (slices values : List ℕ) (present : List Bool) {k : ℕ} → keys ≤ k → ◌≡◌ {A = Option Found} None (first_of (rows_of present values (slice_in slices) k))
 unfolding cell
 no_key slices values present {k} h =
     rw (none_below groups (shown present values (slice_in slices) k) (λ g l. rw (lt-ltb g groups l, le-ltb k keys h)))
@@ -36,7 +37,8 @@ module _ {slices values : List ℕ} {present : List Bool} {k g : ℕ} (s : NoneB
   group_rows = shown present values (slice_in slices) k
 
   module _ (key : k < keys) (l : g < groups) where
-    pub search_hit : has_row slices present k g ≡ true → Present (row_in 0 values g (get_or slices g 0) k) g ≡ first_of (rows_of present values (slice_in slices) k)
+    pub search_hit : has_row slices present k g ≡ true
+        → Some (record { value = row_in 0 values g (get_or slices g 0) k; group = g }) ≡ first_of (rows_of present values (slice_in slices) k)
     search_hit e = rw (list_rest (g + 1) groups group_rows (omega arith), list_more g group_rows, s.hidden, shown_row slices present values key l e)
 
     pub search_miss : has_row slices present k g ≡ false → NoneBelow slices present values k (g + 1)

@@ -1,12 +1,13 @@
 -- What the inner functions of a read ask of each other and promise. `slices` has the timestamp of each file group's slice that counts, or 0 for none.
-use Rattle.std.specs.Prelude.{ℕ, ◌≤◌, ◌<◌, Bool, cond, not, ◌≡◌, List, get_or, ltb}
+use Rattle.std.specs.Prelude.{ℕ, ◌≤◌, ◌<◌, Bool, cond, not, ◌≡◌, List, get_or, ltb, Result, Ok, Err}
 use Rattle.model.specs.Limits.{groups, timestamps}
-use Rattle.model.specs.Answers.{taken, out_of_range, below_horizon}
+use Rattle.model.specs.declared.answers.Refusal.{Refusal}
+use Rattle.model.specs.declared.answers.Refusal.TheVariants.{OutOfRange, BelowHorizon}
 use Rattle.model.specs.State.{completed, newest}
 
--- the refusal of a read at timestamp t, where `tested` is the result of the range test: 17, then 32; 0 for none
-abbrev pub refusal : Bool → ℕ → ℕ → ℕ
-refusal tested t horizon = cond (not tested) out_of_range (cond (ltb t horizon) below_horizon taken)
+-- is a read at timestamp t admitted, where `tested` is the result of the range test: refused with 17, then with 32
+abbrev pub admission : Bool → ℕ → ℕ → Result Unit Refusal
+admission tested t horizon = cond (not tested) (Err OutOfRange) (cond (ltb t horizon) (Err BelowHorizon) (Ok tt))
 
 -- each instant of the timeline is one of the numbers that stand for an instant
 abbrev pub Coded : List ℕ → Type 0

@@ -5,36 +5,29 @@ mod newest;
 
 ghost use Rattle.std.specs.Prelude.{◌≡◌, Bool, List, ℕ};
 ghost use Rattle.model.specs.State.{state_of};
-ghost use Rattle.model.specs.Snapshot.{unlisted, scan, point_read, found_numbers, instant_state, instant_at, instant_numbers};
+ghost use Rattle.model.specs.Snapshot.{scan, point_read, found_numbers, instant_state, instant_at, instant_numbers};
 ghost use Rattle.model.specs.Calls.{scanned};
-ghost use Rattle.snapshot.specs.Inner.{refusal};
+ghost use Rattle.snapshot.specs.Inner.{admission};
 
 use common::Word;
 use metadata::{in_range, instant_of, parts_in_range};
-use model::answers::{BELOW_HORIZON, NO_KEY, OUT_OF_RANGE, TAKEN};
+use model::answers::Refusal;
 use model::instants::{COMPLETED, INFLIGHT, NONE, REQUESTED};
 use model::limits::{KEYS, ROWS};
-use model::{Found, InstantState, Scanned, Table, Value};
+use model::{Found, InstantState, Table, Value};
 
-// The refusal of a read of a table whose range test gave `tested`, or TAKEN.
-fn refusal_of(tested: bool, at: u64, horizon: u8) -> u8
-    ensures { result ≡ refusal tested at horizon }
+// Is a read at a timestamp admitted, of a table whose range test gave `tested`?
+fn admitted(tested: bool, at: u64, horizon: u8) -> Result<(), Refusal>
+    ensures { result ≡ admission tested at horizon }
 {
     let below = at < horizon as u64;
     if !tested {
-        return OUT_OF_RANGE;
+        Err(Refusal::OutOfRange)
+    } else if below {
+        Err(Refusal::BelowHorizon)
+    } else {
+        Ok(())
     }
-    if below {
-        return BELOW_HORIZON;
-    }
-    TAKEN
-}
-
-// A scan that is refused: it counts no row and leaves the buffer as it is.
-fn refused(answer: u8, buffer: &mut [Word]) -> Scanned
-    ensures { scanned result buffer ≡ unlisted answer buffer.old }
-{
-    Scanned { answer, count: 0 }
 }
 
 // The rows at a timestamp, three numbers each, into a lent buffer. The table is taken apart for the range test: handed on whole it would be copied.
@@ -44,7 +37,7 @@ pub fn scan(
     values: &[Value; ROWS],
     at: u64,
     buffer: &mut [Word],
-) -> Scanned
+) -> Result<usize, Refusal>
     ensures { scanned result buffer ≡ scan (state_of t present.now values.now) at buffer.old }
 {
     let locks = t.locks;
@@ -57,28 +50,30 @@ pub fn scan(
     let tested = parts_in_range(
         t.horizon, t.last, &locks, writers, &index, &timeline, &places, &counts, &noted,
     );
-    let answer = refusal_of(tested, at, t.horizon);
-    if answer != TAKEN {
-        return refused(answer, buffer);
-    }
+    admitted(tested, at, t.horizon)?;
     let slices = newest::newest_of_groups(timeline, at);
     shown_rows::list(slices, present, values, buffer)
 }
 
 // The row of a key at a timestamp.
-pub fn read(t: Table, present: &[bool; ROWS], values: &[Value; ROWS], at: u64, key: Word) -> Found
+#[tactic(auto, unfolding(model::specs::Snapshot::point_read))]
+pub fn read(
+    t: Table,
+    present: &[bool; ROWS],
+    values: &[Value; ROWS],
+    at: u64,
+    key: Word,
+) -> Result<Option<Found>, Refusal>
     ensures { found_numbers result ≡ found_numbers (point_read (state_of t present.now values.now) at key) }
 {
-    let refusal = refusal_of(in_range(t), at, t.horizon);
-    if refusal != TAKEN {
-        return Found::Refused(refusal);
-    }
+    admitted(in_range(t), at, t.horizon)?;
     if key >= KEYS as Word {
-        return Found::Refused(NO_KEY);
+        return Err(Refusal::NoKey);
     }
     let timeline = t.timeline;
     let slices = newest::newest_of_groups(timeline, at);
-    shown_rows::first_row(slices, present, values, key as usize)
+    let found = shown_rows::first_row(slices, present, values, key as usize);
+    Ok(found)
 }
 
 // What an instant's number means.
@@ -95,12 +90,13 @@ fn state_of(instant: u8) -> InstantState
 }
 
 // The state of the instant of a timestamp (document 01's third call).
-pub fn instant(t: Table, at: u64) -> InstantState
+#[tactic(auto, unfolding(model::specs::Snapshot::instant_at))]
+pub fn instant(t: Table, at: u64) -> Result<InstantState, Refusal>
     ensures { (present : List Bool) (values : List ℕ) → instant_numbers result ≡ instant_numbers (instant_at (state_of t present values) at) }
 {
     if !in_range(t) {
-        return InstantState::Refused(OUT_OF_RANGE);
+        return Err(Refusal::OutOfRange);
     }
     let timeline = t.timeline;
-    state_of(instant_of(&timeline, at))
+    Ok(state_of(instant_of(&timeline, at)))
 }

@@ -54,7 +54,7 @@ fn pass(
         t = ran.table;
         let scanned = snapshot::scan(t, present, values, t.last as u64, &mut rows);
         if printed {
-            print::operation(out, &answers, ran.count, &rows, scanned.count)?;
+            print::operation(out, &answers, ran.count, &rows, scanned.unwrap_or(0))?;
         }
         at = behind(log.len(), at, ran.offset);
     }

@@ -10,12 +10,11 @@ use Rattle.model.specs.Rules.{entry_of, Answered, writer_of, step}
 use Rattle.model.specs.Snapshot.{Listed, scan, point_read, found_numbers, instant_at, instant_numbers}
 use Rattle.model.specs.History.{Pending, Committed, History}
 use Rattle.model.specs.Cleaning.{clean}
-use Rattle.model.specs.Candidates.{candidates}
+use Rattle.model.specs.Candidates.{Chosen, candidates}
 use Rattle.model.specs.Isolation.{Event, takes_step, cleans_at, beginning}
 use Rattle.model.specs.declared.Mode.{Mode}
 use Rattle.model.specs.declared.Writer.{Writer}
 use Rattle.model.specs.declared.InstantList.{InstantList}
-use Rattle.model.specs.declared.Candidates.{Candidates}
 use Rattle.model.specs.declared.Operation.{Operation}
 use Rattle.model.specs.declared.Operation.TheVariants.{Put, Remove}
 use Rattle.model.specs.declared.Action.{Action}
@@ -154,7 +153,7 @@ cleaned_numbers r is = r.answer ∷ r.state.horizon ∷ rows_numbers r.state.sha
 abbrev pub list_numbers : InstantList → List ℕ
 list_numbers l = l.count ∷ l.timestamps
 
-abbrev pub candidates_numbers : Candidates → List ℕ
+abbrev pub candidates_numbers : Chosen → List ℕ
 candidates_numbers c = c.answer ∷ list_numbers c.by_start ++ list_numbers c.by_completion
 
 abbrev pub chosen_numbers : State → List ℕ → List ℕ

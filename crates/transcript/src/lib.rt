@@ -58,8 +58,9 @@ pub fn transcribe(mode: Mode, log: &[u8], buffer: &mut [u8]) -> Option<usize>
     let t = ran.table;
     let mut rows: [Word; MAX_NUMBERS] = [0; MAX_NUMBERS];
     let scanned = snapshot::scan(t, &present, &values, t.last as u64, &mut rows);
+    let count = scanned.unwrap_or(0);
     let answered = &answers[..ran.count];
-    let listed = &rows[..3 * scanned.count];
+    let listed = &rows[..3 * count];
     text.put_run(answered, ran.stop, ran.offset, listed);
     Some(text.size())
 }

@@ -27,16 +27,20 @@ overflow_mul-rows c =
     omega (arith, (run_fits _ _ c.fresh-fresh.ensures c.run_log-ran.ensures c.scan-scanned.ensures size).1)
 
 pub slice_bounds-rows-end : goal.slice_bounds-rows-end
-slice_bounds-rows-end c = (run_fits _ _ c.fresh-fresh.ensures c.run_log-ran.ensures c.scan-scanned.ensures (search rules)).1
+slice_bounds-rows-end c =
+    rw c.unwrap_or-count.ensures (run_fits _ _ c.fresh-fresh.ensures c.run_log-ran.ensures c.scan-scanned.ensures (search rules)).1
 
 pub slice_bounds-listed-end : goal.slice_bounds-listed-end
-slice_bounds-listed-end c = sym (length-take-le _ _ (run_fits _ _ c.fresh-fresh.ensures c.run_log-ran.ensures c.scan-scanned.ensures (search rules)).1)
+slice_bounds-listed-end c =
+    rw c.unwrap_or-count.ensures
+    (sym (length-take-le _ _ (run_fits _ _ c.fresh-fresh.ensures c.run_log-ran.ensures c.scan-scanned.ensures (search rules)).1))
 
 pub returns-clause-prints : goal.returns-clause-prints
 returns-clause-prints c =
     run_printed _ _ c.fresh-fresh.ensures c.run_log-ran.ensures c.scan-scanned.ensures (search rules) _ c.if-buffer-lt-MAX_TEXT.false
     c.if-log-gt-MAX_LOG.false
-    (put_first c.new-text.ensures.same_bytes c.new-text.ensures.at_the_start c.put_run.ensures c.size-2.ensures (search rules))
+    (put_first c.new-text.ensures.same_bytes c.new-text.ensures.at_the_start (rw c.unwrap_or-count.ensures at c.put_run.ensures) c.size-2.ensures
+    (search rules))
 
 pub returns-clause-within : goal.returns-clause-within
 returns-clause-within c = printed_within _ _ _ _ _ (returns-clause-prints c)
