@@ -46,7 +46,7 @@ fn stored_row(
     group: usize,
     key: usize,
 ) -> io::Result<()> {
-    if present.get(row_place(group, ts, key)) == Some(&true) {
+    if row_place(group, ts, key).is_some_and(|row| present[row]) {
         write!(out, " {group}:{key}")?;
     }
     Ok(())

@@ -56,13 +56,11 @@ fn clean_each(
     values: &[Value; ROWS],
     timestamps: &[u8],
 ) -> io::Result<Table> {
-    let mut t = t;
-    let mut i: usize = 0;
-    while i < timestamps.len() {
-        t = clean_at(out, t, present, values, timestamps[i])?;
-        i += 1;
+    let mut after = t;
+    for at in timestamps {
+        after = clean_at(out, after, present, values, *at)?;
     }
-    Ok(t)
+    Ok(after)
 }
 
 // Cleans a table with these rows, and no others, at each of these timestamps.

@@ -73,8 +73,7 @@ fn set_row(
     key: u8,
     value: u8,
 ) {
-    let row = row_place(group as usize, ts as usize, key as usize);
-    if row < ROWS {
+    if let Some(row) = row_place(group as usize, ts as usize, key as usize) {
         present[row] = true;
         values[row] = value as Value;
     }
@@ -82,20 +81,8 @@ fn set_row(
 
 // The rows of a table, each four bytes: file group, timestamp, key and value.
 pub fn set_rows(present: &mut [bool; ROWS], values: &mut [Value; ROWS], rows: &[u8]) {
-    let mut i: usize = 0;
-    while i < rows.len() {
-        if rows.len() - i < 4 {
-            return;
-        }
-        set_row(
-            present,
-            values,
-            rows[i],
-            rows[i + 1],
-            rows[i + 2],
-            rows[i + 3],
-        );
-        i += 4;
+    for row in rows.chunks_exact(4) {
+        set_row(present, values, row[0], row[1], row[2], row[3]);
     }
 }
 

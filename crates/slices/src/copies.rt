@@ -1,159 +1,71 @@
 // A slice is stored: the rows of its base are copied, or cleared for base 0, and the one of the writer's key is set. It
-// is dropped: all are cleared. What rows are present and their values have functions of their own, alike but for the
-// type.
+// is dropped: all are cleared.
 ghost use Rattle.std.specs.Prelude.{◌≡◌, false, ◌<◌, ◌≤◌};
-ghost use Rattle.model.specs.Limits.{keys, groups, timestamps};
+ghost use Rattle.model.specs.Limits.{keys, timestamps};
 ghost use Rattle.model.specs.Rules.{copied, sliced};
-ghost use Rattle.slices.specs.Slices.{names_slice, StoresSlice, slice_dropped};
+ghost use Rattle.slices.specs.Slices.{StoresSlice, slice_dropped};
 
-use crate::places::row_at;
-use model::limits::{GROUPS, KEYS, ROWS, TIMESTAMPS};
+use crate::places::Slice;
+use model::limits::{KEYS, ROWS, TIMESTAMPS};
 use model::{Value, Writer};
 
-// The rows of the group's slice of `ts` become absent.
-fn clear_present(rows: &mut [bool; ROWS], group: usize, ts: usize)
-    requires { (group < groups) × ((0 < ts) × (ts ≤ timestamps)) }
-    ensures { rows.new ≡ copied false rows.old group 0 ts keys }
+// The rows of the slice become absent.
+#[tactic(auto, using(crate::proofs::Rows::clear_row), unfolding(model::specs::Rules::copied))]
+fn clear<T: Copy>(rows: &mut [T; ROWS], slice: Slice, absent: T)
+    ensures { rows.new ≡ copied absent rows.old slice.group 0 slice.ts keys }
 {
-    let to = row_at(group, ts, 0);
-    let mut k: usize = 0;
-    while k < KEYS {
-        rows[to + k] = false;
-        k += 1;
+    let to = slice.row(0);
+    for k in 0..KEYS {
+        rows[to + k] = absent;
     }
 }
 
-fn clear_values(rows: &mut [Value; ROWS], group: usize, ts: usize)
-    requires { (group < groups) × ((0 < ts) × (ts ≤ timestamps)) }
-    ensures { rows.new ≡ copied 0 rows.old group 0 ts keys }
+// The rows of a slice of the same group into the slice.
+#[tactic(auto, using(crate::proofs::Rows::copied_rows))]
+fn copy<T: Copy>(rows: &mut [T; ROWS], base: Slice, slice: Slice)
+    requires { base.group ≡ slice.group }
+    ensures { (absent : T) → rows.new ≡ copied absent rows.old slice.group base.ts slice.ts keys }
 {
-    let to = row_at(group, ts, 0);
-    let mut k: usize = 0;
-    while k < KEYS {
-        rows[to + k] = 0;
-        k += 1;
-    }
+    let from = base.row(0);
+    rows.copy_within(from..from + KEYS, slice.row(0));
 }
 
-// The rows of the group's slice of `base` into its slice of `ts`.
-fn copy_present(rows: &mut [bool; ROWS], group: usize, base: usize, ts: usize)
-    requires { (group < groups) × ((0 < base) × (base ≤ timestamps)) × ((0 < ts) × (ts ≤ timestamps)) }
-    ensures { rows.new ≡ copied false rows.old group base ts keys }
+// The slice: the rows of its group's slice of `base`, none for base 0, with the one of `key` set.
+#[tactic(auto, using(std::proofs::lemmas::Bool::Decides::nat_tests), unfolding(model::specs::Rules::sliced))]
+fn store<T: Copy>(rows: &mut [T; ROWS], slice: Slice, base: usize, key: usize, row: T, absent: T)
+    requires { (base ≤ timestamps) × (key < keys) }
+    ensures { rows.new ≡ sliced absent rows.old slice.group base slice.ts key row }
 {
-    let from = row_at(group, base, 0);
-    let to = row_at(group, ts, 0);
-    let mut k: usize = 0;
-    while k < KEYS {
-        let row = rows[from + k];
-        rows[to + k] = row;
-        k += 1;
+    match Slice::of(slice.group, base) {
+        Some(base) => copy(rows, base, slice),
+        None => clear(rows, slice, absent),
     }
-}
-
-fn copy_values(rows: &mut [Value; ROWS], group: usize, base: usize, ts: usize)
-    requires { (group < groups) × ((0 < base) × (base ≤ timestamps)) × ((0 < ts) × (ts ≤ timestamps)) }
-    ensures { rows.new ≡ copied 0 rows.old group base ts keys }
-{
-    let from = row_at(group, base, 0);
-    let to = row_at(group, ts, 0);
-    let mut k: usize = 0;
-    while k < KEYS {
-        let row = rows[from + k];
-        rows[to + k] = row;
-        k += 1;
-    }
-}
-
-// The group's slice of `ts`: the rows of its slice of `base`, none for base 0, with the one of `key` set.
-fn slice_present(
-    rows: &mut [bool; ROWS],
-    group: usize,
-    base: usize,
-    ts: usize,
-    key: usize,
-    put: bool,
-)
-    requires { (group < groups) × (base ≤ timestamps) × (((0 < ts) × (ts ≤ timestamps)) × (key < keys)) }
-    ensures { rows.new ≡ sliced false rows.old group base ts key put }
-{
-    let row = row_at(group, ts, key);
-    if base == 0 {
-        clear_present(&mut *rows, group, ts);
-        rows[row] = put;
-        return;
-    }
-    copy_present(&mut *rows, group, base, ts);
-    rows[row] = put;
-}
-
-fn slice_values(
-    rows: &mut [Value; ROWS],
-    group: usize,
-    base: usize,
-    ts: usize,
-    key: usize,
-    value: Value,
-)
-    requires { (group < groups) × (base ≤ timestamps) × (((0 < ts) × (ts ≤ timestamps)) × (key < keys)) }
-    ensures { rows.new ≡ sliced 0 rows.old group base ts key value }
-{
-    let row = row_at(group, ts, key);
-    if base == 0 {
-        clear_values(&mut *rows, group, ts);
-        rows[row] = value;
-        return;
-    }
-    copy_values(&mut *rows, group, base, ts);
-    rows[row] = value;
-}
-
-// Do a writer's numbers name a slice, its base and a key?
-fn names_slice(x: Writer) -> bool
-    ensures { result ≡ names_slice x }
-{
-    if x.group >= GROUPS as u8 {
-        return false;
-    }
-    if x.base > TIMESTAMPS as u8 {
-        return false;
-    }
-    if x.ts < 1 {
-        return false;
-    }
-    if x.ts > TIMESTAMPS as u8 {
-        return false;
-    }
-    x.key < KEYS as u8
+    rows[slice.row(key)] = row;
 }
 
 // Stores the slice of a writer's operation: a put makes its key present with its value, a remove absent.
 // Nothing is stored where one of the writer's numbers is out of range.
+#[tactic(auto, using(std::proofs::lemmas::Bool::Decides::nat_tests), unfolding(crate::specs::Slices::slice_stored))]
 pub fn store_slice(present: &mut [bool; ROWS], values: &mut [Value; ROWS], x: Writer)
     ensures { StoresSlice x present values }
 {
-    if !names_slice(x) {
+    let base = x.base as usize;
+    let key = x.key as usize;
+    let Some(slice) = Slice::of(x.group as usize, x.ts as usize) else {
+        return;
+    };
+    if base > TIMESTAMPS || key >= KEYS {
         return;
     }
-    let group = x.group as usize;
-    let base = x.base as usize;
-    let ts = x.ts as usize;
-    let key = x.key as usize;
-    slice_present(&mut *present, group, base, ts, key, x.put);
-    slice_values(&mut *values, group, base, ts, key, x.value);
+    store(present, slice, base, key, x.put, false);
+    store(values, slice, base, key, x.value, 0);
 }
 
 // Drops the slice of a file group and a timestamp: its rows become absent. Nothing changes where one of the two is out of range.
 pub fn drop_slice(present: &mut [bool; ROWS], group: u8, ts: u8)
     ensures { present.new ≡ slice_dropped present.old group ts }
 {
-    if group >= GROUPS as u8 {
-        return;
+    if let Some(slice) = Slice::of(group as usize, ts as usize) {
+        clear(present, slice, false);
     }
-    if ts < 1 {
-        return;
-    }
-    if ts > TIMESTAMPS as u8 {
-        return;
-    }
-    clear_present(&mut *present, group as usize, ts as usize);
 }
