@@ -1,5 +1,6 @@
 // One reader, asked five times.
-ghost use Rattle.std.specs.Prelude.{◌≡◌};
+ghost use Rattle.std.specs.Prelude.{◌≡◌, map};
+ghost use Rattle.std.specs.List.{range_with_len};
 ghost use Rattle.steplog.specs.Reader.{reader_place, reader_finds};
 
 use steplog::Record;
@@ -7,21 +8,14 @@ use steplog::Record;
 // What five calls of `next` gave, and the reader's place after them.
 #[derive(Clone, Copy)]
 pub struct Five {
-    pub first: Record,
-    pub second: Record,
-    pub third: Record,
-    pub fourth: Record,
-    pub fifth: Record,
+    pub records: [Record; 5],
     pub place: usize,
 }
 
+// Reads a log from its start through a reader that is asked five times.
 pub fn read_five(log: &[u8]) -> Five
     ensures { result ≡ record {
-      first = reader_finds log.now 0 0;
-      second = reader_finds log.now 0 1;
-      third = reader_finds log.now 0 2;
-      fourth = reader_finds log.now 0 3;
-      fifth = reader_finds log.now 0 4;
+      records = map (λ n. reader_finds log.now 0 n) (range_with_len 0 5);
       place = reader_place log.now 0 5;
     } }
 {
@@ -32,11 +26,7 @@ pub fn read_five(log: &[u8]) -> Five
     let fourth = steplog::next(&mut reader);
     let fifth = steplog::next(&mut reader);
     Five {
-        first,
-        second,
-        third,
-        fourth,
-        fifth,
+        records: [first, second, third, fourth, fifth],
         place: reader.at,
     }
 }

@@ -5,7 +5,7 @@
 
 mod print;
 
-ghost use Rattle.std.specs.Prelude.{◌<◌, ◌≤◌};
+ghost use Rattle.std.specs.Prelude.{◌<◌, length};
 
 use common::Word;
 use leb128::Decoded;
@@ -23,18 +23,15 @@ const STEPS: usize = 7;
 // Room for the rows of a scan, three numbers each.
 const ROOM: usize = 3 * KEYS;
 
-// The place behind a part of a log that was run; the end where the run took nothing.
-fn behind(end: usize, at: usize, size: usize) -> usize
-    requires { at < end }
-    ensures { (at < result) × (result ≤ end) }
+// The log behind a part of it that was run; nothing where the run took nothing.
+fn behind(log: &[u8], size: usize) -> &[u8]
+    requires { 0 < length log.now }
+    ensures { length result.now < length log.now }
 {
     if size == 0 {
-        return end;
+        return &[];
     }
-    if end - at < size {
-        return end;
-    }
-    at + size
+    log.get(size..).unwrap_or_default()
 }
 
 // Runs a log on a fresh optimistic table, STEPS records at a time, with a scan at the last timestamp issued after each.
@@ -48,19 +45,21 @@ fn pass(
     let mut answers = [0u8; STEPS];
     let mut rows: [Word; ROOM] = [0; ROOM];
     let mut t = table::fresh(Mode::Optimistic, present, values);
-    let mut at: usize = 0;
-    while at < log.len() {
-        let ran = run::run_log(t, present, values, &log[at..], &mut answers);
+    let mut rest = log;
+    while !rest.is_empty() {
+        let ran = run::run_log(t, present, values, rest, &mut answers);
         t = ran.table;
         let scanned = snapshot::scan(t, present, values, t.last as u64, &mut rows);
         if printed {
-            print::operation(out, &answers, ran.count, &rows, scanned.unwrap_or(0))?;
+            print::answers(out, &answers, ran.count)?;
+            print::rows(out, &rows, scanned.unwrap_or(0))?;
         }
-        at = behind(log.len(), at, ran.offset);
+        rest = behind(rest, ran.offset);
     }
     Ok(())
 }
 
+// Passes over a log, of which the last is printed.
 fn passes(out: &mut impl Write, times: Word, log: &[u8]) -> io::Result<()> {
     let mut present = [false; ROWS];
     let mut values: [Value; ROWS] = [0; ROWS];
@@ -76,10 +75,10 @@ fn run_input(out: &mut impl Write, input: &[u8]) -> io::Result<()> {
     let Decoded::Number { value, next } = first else {
         return Ok(());
     };
-    if next <= input.len() {
-        passes(out, value, &input[next..])?;
-    }
-    Ok(())
+    let Some(log) = input.get(next..) else {
+        return Ok(());
+    };
+    passes(out, value, log)
 }
 
 fn main(rt: HostRuntime) -> io::Result<()> {

@@ -10,31 +10,18 @@ use std::io::{BufWriter, Write};
 // Room for the whole input.
 const MAX_INPUT: usize = 4096;
 
-fn print_bytes(out: &mut impl Write, bytes: &[u8]) -> io::Result<()> {
-    for byte in bytes {
-        write!(out, "{byte:02x}")?;
-    }
-    Ok(())
-}
-
+// A number, and the bytes that leb128 makes of it.
 fn print_number(out: &mut impl Write, number: Word) -> io::Result<()> {
     let mut buffer = [0u8; 16];
     let size = leb128::encode(number, &mut buffer);
-    write!(out, "{number}")?;
-    out.write_all(b" ")?;
-    print_bytes(out, &buffer[..size])?;
-    out.write_all(b"\n")
+    write!(out, "{number} ")?;
+    for byte in &buffer[..size] {
+        write!(out, "{byte:02x}")?;
+    }
+    writeln!(out)
 }
 
-fn print_stop(out: &mut impl Write, stop: u8, at: usize) -> io::Result<()> {
-    out.write_all(b"stop ")?;
-    write!(out, "{stop}")?;
-    out.write_all(b" at ")?;
-    write!(out, "{at}")?;
-    out.write_all(b"\n")
-}
-
-// The numbers of some bytes, one behind the other.
+// The numbers of some bytes, one behind the other, and the stop and its place.
 fn print_numbers(out: &mut impl Write, bytes: &[u8]) -> io::Result<()> {
     let mut at = 0;
     while at < bytes.len() {
@@ -43,12 +30,10 @@ fn print_numbers(out: &mut impl Write, bytes: &[u8]) -> io::Result<()> {
                 print_number(out, value)?;
                 at = next;
             }
-            Decoded::Stop(stop) => {
-                return print_stop(out, stop, at);
-            }
+            Decoded::Stop(stop) => return writeln!(out, "stop {stop} at {at}"),
         }
     }
-    print_stop(out, 0, at)
+    writeln!(out, "stop 0 at {at}")
 }
 
 fn main(rt: HostRuntime) -> io::Result<()> {

@@ -7,5 +7,5 @@ use Rattle.uleb128_vectors.proofs.print_number.Goals as goal
 pub slice_bounds-buffer-end : goal.slice_bounds-buffer-end
 slice_bounds-buffer-end g c = stored_within _ _ c.encode-size.ensures
 
-pub slice_bounds-print_bytes-end : goal.slice_bounds-print_bytes-end
-slice_bounds-print_bytes-end g c = sym (length-take-le _ _ (stored_within _ _ c.encode-size.ensures))
+pub slice_bounds-byte-items-end : goal.slice_bounds-byte-items-end
+slice_bounds-byte-items-end g c = sym (length-take-le _ _ (stored_within _ _ c.encode-size.ensures))
