@@ -12,7 +12,7 @@ use std::io;
 use std::io::{BufWriter, Write};
 
 // The largest number.
-const LARGEST: Word = 18446744073709551615;
+const LARGEST: Word = Word::MAX;
 
 fn put_and_look_up() -> [Step; 2]
     ensures { result ≡ put_and_look_up }

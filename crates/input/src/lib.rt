@@ -7,6 +7,7 @@ use std::io;
 use std::io::Read;
 
 // Reads until the buffer is full or the input ends, and gives how many bytes stand at the start of the buffer.
+// No method of Read does so: read_exact loses the count where the input ends, and read_to_end needs a heap.
 pub fn read_full(input: &mut impl Read, buffer: &mut [u8]) -> io::Result<usize>
     ensures { IfOk result (λ n. n ≤ length buffer.new) }
 {

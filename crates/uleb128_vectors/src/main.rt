@@ -21,7 +21,7 @@ fn print_number(out: &mut impl Write, number: Word) -> io::Result<()> {
     writeln!(out)
 }
 
-// The numbers of some bytes, one behind the other, and the stop and its place.
+// The numbers of some bytes, one behind the other, and the stop and its place. No iterator: the place where the reading stops is printed too.
 fn print_numbers(out: &mut impl Write, bytes: &[u8]) -> io::Result<()> {
     let mut at = 0;
     while at < bytes.len() {
