@@ -12,10 +12,15 @@ use Rattle.model.specs.Limits.{keys, groups}
 use Rattle.model.specs.Answers.{taken, no_room}
 use Rattle.model.specs.Snapshot.{Row, all_rows, Listed, unlisted, listed_if_fits, numbers}
 use Rattle.shown_rows.specs.declared.counting.KeyCounts.{KeyCounts}
+use Rattle.shown_rows.specs.declared.places.Shown.{Shown}
 use Rattle.shown_rows.specs.Slices.{slice_in}
 use Rattle.shown_rows.specs.Inner.{Counted, AllFit}
 use Rattle.shown_rows.proofs.ShownRows.{numbers_length}
 use Rattle.shown_rows.proofs.CountedRows.{counted_all}
+
+pub all_fit : (s : Shown) {counts : KeyCounts} {count room : ℕ} → Counted s.slices s.present.now groups counts.shows counts.lowest
+    → count ≡ sum keys (λ k. get_or counts.shows k 0) → 3 * count ≤ room → AllFit s counts room
+all_fit s c e l = record { counted = c; fits = omega (arith, e ∙ counted_all s.slices s.present.now c s.values.now) }
 
 module _ (present : List Bool) (values slices : List ℕ) {shown : KeyCounts} {count : ℕ}
     (c : Counted slices present groups shown.shows shown.lowest) (e : count ≡ sum keys (λ k. get_or shown.shows k 0)) where
@@ -24,9 +29,6 @@ module _ (present : List Bool) (values slices : List ℕ) {shown : KeyCounts} {c
 
   counted : count ≡ length listed
   counted = e ∙ counted_all slices present c values
-
-  pub all_fit : {room : ℕ} → 3 * count ≤ room → AllFit slices present values shown room
-  all_fit l = record { counted = c; fits = omega (arith, counted) }
 
   pub list_full : (buffer : List ℕ) → length buffer < 3 * count → unlisted no_room buffer ≡ listed_if_fits listed buffer
   list_full buffer l = rw (← counted, lt-ltb (length buffer) (3 * count) l)

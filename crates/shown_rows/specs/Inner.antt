@@ -7,6 +7,7 @@ use Rattle.model.specs.State.{row_in}
 use Rattle.model.specs.Snapshot.{Row, shown, rows_of, all_rows}
 use Rattle.common.specs.Pasting.{PastedTo}
 use Rattle.shown_rows.specs.declared.counting.KeyCounts.{KeyCounts}
+use Rattle.shown_rows.specs.declared.places.Shown.{Shown}
 use Rattle.shown_rows.specs.declared.storing.Listing.{Listing}
 use Rattle.shown_rows.specs.Slices.{timestamp_or0, slice_in}
 
@@ -56,30 +57,36 @@ pub record Counted (slices : List ℕ) (present : List Bool) (n : ℕ) (shows lo
   pub count : (k : ℕ) → k < keys → get_or shows k 0 ≡ sum n (λ g. number_of (has_row slices present k g))
   pub low : (k : ℕ) → k < keys → Lowest (has_row slices present k) n (get_or lowest k 0)
 
--- the rows of key k in the file groups from `from` on
-abbrev pub rows_from : List Bool → List ℕ → (ℕ → ℕ) → ℕ → ℕ → List Row
-rows_from present values slice k from = list_below (groups - from) (λ i. shown present values slice k (from + i))
+-- the rows that slices show of key k in the file groups from `from` on, of the key, and of all keys
+abbrev pub rows_from : Shown → ℕ → ℕ → List Row
+rows_from s k from = list_below (groups - from) (λ i. shown s.present.now s.values.now (slice_in s.slices) k (from + i))
 
--- what storing them, `count` rows, from a place on asks
-pub record OthersFit (slices : List ℕ) (present : List Bool) (values : List ℕ) (k from count at room : ℕ) : Type 0 where
+abbrev pub key_rows : Shown → ℕ → List Row
+key_rows s k = rows_of s.present.now s.values.now (slice_in s.slices) k
+
+abbrev pub rows_shown : Shown → List Row
+rows_shown s = all_rows s.present.now s.values.now (slice_in s.slices)
+
+-- what storing the rows of key k in the file groups from `from` on, of which there are `count`, asks
+pub record OthersFit (s : Shown) (k from count : ℕ) (listing : Listing) : Type 0 where
   pub key : k < keys
   pub within : from ≤ groups
-  pub all : count ≡ length (rows_from present values (slice_in slices) k from)
-  pub fits : at + 3 * count ≤ room
+  pub all : count ≡ length (rows_from s k from)
+  pub fits : listing.at + 3 * count ≤ length listing.buffer.now
 
--- what storing the rows of key k from a place on asks
-pub record KeyFits (slices : List ℕ) (present : List Bool) (values : List ℕ) (k count lowest at room : ℕ) : Type 0 where
+-- what storing the rows of key k asks
+pub record KeyFits (s : Shown) (k count lowest : ℕ) (listing : Listing) : Type 0 where
   pub key : k < keys
-  pub all : count ≡ length (rows_of present values (slice_in slices) k)
-  pub low : Lowest (has_row slices present k) groups lowest
-  pub fits : at + 3 * count ≤ room
+  pub all : count ≡ length (key_rows s k)
+  pub low : Lowest (has_row s.slices s.present.now k) groups lowest
+  pub fits : listing.at + 3 * count ≤ length listing.buffer.now
+
+-- what storing all rows asks
+pub record AllFit (s : Shown) (counts : KeyCounts) (room : ℕ) : Type 0 where
+  pub counted : Counted s.slices s.present.now groups counts.shows counts.lowest
+  pub fits : 3 * length (rows_shown s) ≤ room
 
 -- a piece is stored behind what a listing holds, in the same buffer
 pub record Stores (old new : Listing) (piece : List ℕ) : Type 0 where
   pub same_reference : new.buffer.ghost_name ≡ old.buffer.ghost_name
   pub pasted : PastedTo old.buffer.now old.at piece new.at new.buffer.now
-
--- what storing all rows asks
-pub record AllFit (slices : List ℕ) (present : List Bool) (values : List ℕ) (shown : KeyCounts) (room : ℕ) : Type 0 where
-  pub counted : Counted slices present groups shown.shows shown.lowest
-  pub fits : 3 * length (all_rows present values (slice_in slices)) ≤ room

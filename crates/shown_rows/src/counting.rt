@@ -54,7 +54,8 @@ pub fn count_slices(shown: &Shown) -> KeyCounts
         shows: [0; KEYS],
         lowest: [GROUPS as u8; KEYS],
     };
-    for (group, &slice) in shown.slices.iter().enumerate() {
+    for group in 0..GROUPS {
+        let slice = shown.slices[group];
         if has_slices(slice) {
             let from = row_at(group, slice, 0);
             counts.count_slice(shown.present, from, group as u8);

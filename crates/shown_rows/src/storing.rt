@@ -2,9 +2,8 @@
 ghost use Rattle.std.specs.Prelude.{◌≡◌, [], ◌∷◌, ◌≤◌, ◌+◌, length, slice_index};
 ghost use Rattle.common.specs.Pasting.{pasted};
 ghost use Rattle.model.specs.State.{row_in};
-ghost use Rattle.model.specs.Snapshot.{row, rows_of, all_rows, numbers};
-ghost use Rattle.shown_rows.specs.Slices.{slice_in};
-ghost use Rattle.shown_rows.specs.Inner.{HasPlace, rows_from, OthersFit, KeyFits, AllFit, Stores};
+ghost use Rattle.model.specs.Snapshot.{row, numbers};
+ghost use Rattle.shown_rows.specs.Inner.{HasPlace, rows_from, key_rows, rows_shown, OthersFit, KeyFits, AllFit, Stores};
 
 use crate::counting::KeyCounts;
 use crate::places::Shown;
@@ -32,8 +31,8 @@ impl Listing<'_> {
 
     // Stores the rows that the file groups from `from` on show of a key, of which there are so many.
     fn store_others(&mut self, shown: &Shown, key: usize, from: usize, count: u8)
-        requires { OthersFit shown.now.slices shown.now.present.now shown.now.values.now key from count self.old.at (length self.old.buffer.now) }
-        ensures { Stores self.old self.new (numbers (rows_from shown.now.present.now shown.now.values.now (slice_in shown.now.slices) key from)) }
+        requires { OthersFit shown.now key from count self.old }
+        ensures { Stores self.old self.new (numbers (rows_from shown.now key from)) }
     {
         let mut left = count;
         for group in from..GROUPS {
@@ -49,8 +48,8 @@ impl Listing<'_> {
 
     // Stores the rows of a key. The first stands in the lowest group that shows the key: only others are looked for.
     fn store_key(&mut self, shown: &Shown, key: usize, count: u8, lowest: u8)
-        requires { KeyFits shown.now.slices shown.now.present.now shown.now.values.now key count lowest self.old.at (length self.old.buffer.now) }
-        ensures { Stores self.old self.new (numbers (rows_of shown.now.present.now shown.now.values.now (slice_in shown.now.slices) key)) }
+        requires { KeyFits shown.now key count lowest self.old }
+        ensures { Stores self.old self.new (numbers (key_rows shown.now key)) }
     {
         if count == 0 {
             return;
@@ -63,8 +62,8 @@ impl Listing<'_> {
 
 // Stores all rows from the beginning on.
 pub fn store(shown: &Shown, counts: &KeyCounts, buffer: &mut [Word])
-    requires { AllFit shown.now.slices shown.now.present.now shown.now.values.now counts.now (length buffer.old) }
-    ensures { buffer.new ≡ pasted buffer.old 0 (numbers (all_rows shown.now.present.now shown.now.values.now (slice_in shown.now.slices))) }
+    requires { AllFit shown.now counts.now (length buffer.old) }
+    ensures { buffer.new ≡ pasted buffer.old 0 (numbers (rows_shown shown.now)) }
 {
     let mut listing = Listing { buffer, at: 0 };
     for key in 0..KEYS {

@@ -12,7 +12,7 @@ returns-then-buffer-count c =
     list_full _ _ _ c.count_slices-counts.ensures c.total-count.ensures.0 _ c.if-buffer-count.true
 
 pub store-requires : goal.store-requires
-store-requires c = all_fit _ _ _ c.count_slices-counts.ensures c.total-count.ensures.0 c.if-buffer-count.false
+store-requires c = all_fit _ c.count_slices-counts.ensures c.total-count.ensures.0 c.if-buffer-count.false
 
 pub returns : goal.returns
 returns c = list_done _ _ _ c.count_slices-counts.ensures c.total-count.ensures.0 _ c.if-buffer-count.false c.store.ensures

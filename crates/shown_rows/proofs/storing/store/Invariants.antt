@@ -8,4 +8,4 @@ use Rattle.shown_rows.proofs.storing.store.Given as goal
 abbrev pub invariant-loop-key : goal.invariant-loop-key
 invariant-loop-key l =
     (l.listing.buffer.ghost_name ≡ l.initial.listing.buffer.ghost_name)
-    × parts.Putting (key_part l.shown.slices l.shown.present.now l.shown.values.now) keys l.initial.listing.buffer.now 0 l.listing.buffer.now l.listing.at l.key
+    × parts.Putting (key_part l.shown) keys l.initial.listing.buffer.now 0 l.listing.buffer.now l.listing.at l.key
