@@ -1,7 +1,7 @@
 -- The sweep over the timestamps 1 to c: `Swept` is the loop's invariant, with one law for each way round it.
 --     sweep_none, sweep_keep, sweep_drop, sweep_end    before the first timestamp, past one, past one whose slice is dropped, and past all
-use Prim.Native.Nat.{ℕ, suc, ◌+◌, ◌<◌, ◌≤◌}
-use native.Mathlib.Numerals.{add-one}
+use Prim.Native.Nat.{ℕ, zero, suc, ◌-◌, ◌<◌, ◌≤◌}
+use native.Mathlib.Numerals.{sub-one}
 use native.Mathlib.Omega.{arith}
 use mathlib.Core.Bool.{Bool, true, false}
 use mathlib.Core.List.{List}
@@ -26,30 +26,33 @@ module _ {timeline : List ℕ} {c : ℕ} {before : List Bool} where
   unfolding swept
   sweep_none = record { within = omega arith; same = refl }
 
-  module _ {present : List Bool} {n : ℕ} (v : Swept timeline c before present n) where
-    pub sweep_end : c ≤ n → present ≡ swept timeline c before c
-    sweep_end h = let z : n ≡ c = omega (arith, v.within) in v.same ∙ ap (swept timeline c before) z
+  pub sweep_end : {present : List Bool} {n : ℕ} → c ≤ n → Swept timeline c before present n → present ≡ swept timeline c before c
+  sweep_end {n} h v = let z : n ≡ c = omega (arith, v.within) in v.same ∙ ap (swept timeline c before) z
 
-    module _ (l : n < c) where
-      pub sweep_keep : drops timeline c (n + 1) ≡ false → Swept timeline c before present (n + 1)
-      unfolding swept
-      sweep_keep e = record { within = omega arith; same = rw add-one (rw (rw add-one at e, v.same)) }
+  pub sweep_keep : {present : List Bool} (n : ℕ) → 0 < n → n ≤ c → Swept timeline c before present (n - 1) → drops timeline c n ≡ false
+      → Swept timeline c before present n
+  unfolding swept
+  sweep_keep zero p l v e = absurd (omega arith)
+  sweep_keep (suc n) p l v e = record { within = l; same = rw e (rw (sub-one (suc n)) at v.same) }
 
-      pub sweep_drop : instants_in_range timeline ≡ true → c ≤ timestamps → {i : ℕ} → i ≡ instant_of timeline (n + 1) → drops timeline c (n + 1) ≡ true
-          → Swept timeline c before (slice_dropped present (group_of_completed i) (n + 1)) (n + 1)
-      unfolding swept
-      sweep_drop r h z e =
-          let coded = (at_most_iff _ timeline).0 r n in
-          let group : group_of_completed (get_or timeline n 0) < groups = omega (arith, coded) in
-          record {
-            within = omega arith;
-            same =
-                rw (z, add-one)
-                (rw (
-                  lt-ltb _ _ group,
-                  le-leb 1 (suc n) (omega arith),
-                  le-leb (suc n) timestamps (omega arith),
-                  rw add-one at e,
-                  v.same,
-                ));
-          }
+  pub sweep_drop : {present : List Bool} (n : ℕ) {i : ℕ} → 0 < n → n ≤ c → Swept timeline c before present (n - 1)
+      → instants_in_range timeline ≡ true → c ≤ timestamps → i ≡ instant_of timeline n → drops timeline c n ≡ true
+      → Swept timeline c before (slice_dropped present (group_of_completed i) n) n
+  unfolding swept
+  sweep_drop zero p l v r h z e = absurd (omega arith)
+  sweep_drop (suc n) p l v r h z e =
+      let coded = (at_most_iff _ timeline).0 r n in
+      let group : group_of_completed (get_or timeline n 0) < groups = omega (arith, coded) in
+      let below = rw (sub-one (suc n)) at v.same in
+      record {
+        within = l;
+        same =
+            rw z
+            (rw (
+              lt-ltb _ _ group,
+              le-leb 1 (suc n) (omega arith),
+              le-leb (suc n) timestamps (omega arith),
+              e,
+              below,
+            ));
+      }

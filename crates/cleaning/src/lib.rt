@@ -16,38 +16,26 @@ use model::{Stepped, Table, Writer};
 use slices::drop_slice;
 
 // Does a clean drop the slice of a timestamp?
+#[tactic(auto, unfolding(model::specs::Cleaning::drops))]
 fn drops(timeline: &[u8], at: u8, ts: u8) -> bool
     ensures { result ≡ drops timeline.now at ts }
 {
     let instant = instant_of(timeline, ts as u64);
-    if instant < COMPLETED {
-        return false;
-    }
-    ts < newest_of(timeline, instant - COMPLETED, at)
+    instant >= COMPLETED && ts < newest_of(timeline, instant - COMPLETED, at)
 }
 
 // Would a writer lose its base, which it is about to copy?
 fn loses_base(timeline: &[u8], at: u8, x: Writer) -> bool
     ensures { result ≡ loses_base timeline.now at x }
 {
-    if x.phase != 3 {
-        return false;
-    }
-    drops(timeline, at, x.base)
+    x.phase == 3 && drops(timeline, at, x.base)
 }
 
 // Does every writer keep its base?
-fn bases_kept(timeline: &[u8], at: u8, writers: [Writer; WRITERS]) -> bool
-    ensures { result ≡ bases_kept timeline.now at writers }
+fn bases_kept(timeline: &[u8], at: u8, writers: &[Writer; WRITERS]) -> bool
+    ensures { result ≡ bases_kept timeline.now at writers.now }
 {
-    let mut w: usize = 0;
-    while w < WRITERS {
-        if loses_base(timeline, at, writers[w]) {
-            return false;
-        }
-        w += 1;
-    }
-    true
+    writers.iter().all(|x| !loses_base(timeline, at, *x))
 }
 
 // Drops the slices, from the first timestamp on. None above the horizon is dropped.
@@ -55,9 +43,7 @@ fn sweep(timeline: &[u8; TIMESTAMPS], at: u8, present: &mut [bool; ROWS])
     requires { (instants_in_range timeline.now ≡ true) × (at ≤ timestamps) }
     ensures { present.new ≡ swept timeline.now at present.old at }
 {
-    let mut n: u8 = 0;
-    while n < at {
-        n += 1;
+    for n in 1..=at {
         if drops(timeline, at, n) {
             let instant = instant_of(timeline, n as u64);
             drop_slice(&mut *present, instant - COMPLETED, n);
@@ -89,15 +75,13 @@ pub fn clean(mut t: Table, present: &mut [bool; ROWS], at: u64) -> Stepped
         };
     }
     let horizon = at as u8;
-    let timeline = t.timeline;
-    let writers = t.writers;
-    if !bases_kept(&timeline, horizon, writers) {
+    if !bases_kept(&t.timeline, horizon, &t.writers) {
         return Stepped {
             answer: BASE_NEEDED,
             table: t,
         };
     }
-    sweep(&timeline, horizon, &mut *present);
+    sweep(&t.timeline, horizon, &mut *present);
     t.horizon = horizon;
     Stepped {
         answer: TAKEN,

@@ -1,15 +1,15 @@
 -- The largest number of a list: the loop that takes it, and the tests of answer 17 as tests of it.
---     largest_next, largest_end    a turn of the loop over the numbers from a place on, and its end
---     at_most_largest, none_largest    each of some numbers is at most n, or 0, exactly if the largest is
-use Prim.Native.Nat.{ℕ, zero, suc, ◌+◌, ◌<◌, ◌≤◌, max}
+--     largest_next, largest_end    a turn of the loop over the numbers, and its end
+--     at_most_largest              each of some numbers is at most n exactly if the largest is
+use Prim.Native.Nat.{ℕ, ◌+◌, ◌<◌, ◌≤◌, max}
 use native.Mathlib.Numerals.{add-one}
 use native.Mathlib.Omega.{arith}
 use mathlib.Core.Bool.{Bool, true, false, ◌&&◌}
 use mathlib.Core.List.{List, [], ◌∷◌}
-use mathlib.Core.Path.{◌≡◌, refl, sym, ◌∙◌}
+use mathlib.Core.Path.{◌≡◌, refl, sym}
 use lib.ListN.{length, drop, get_or, drop_of_length-le}
 use lib.Seq.{drop-cons}
-use lib.Dec.{eqb, leb, leb-zero, leb-suc-zero, eqb-suc-zero}
+use lib.Dec.{leb, leb-zero}
 use borrow.Author.Tests.{leb-true, leb-false, le-leb, lt-leb}
 use Rattle.model.specs.Range.{all_at_most}
 use Rattle.metadata.specs.Largest.{largest}
@@ -33,19 +33,7 @@ leb_max a b n = go (leb a n) (leb b n) refl refl
     go false q e h = lt-leb (max a b) n (omega (arith, leb-false a n e))
 
 -- each of some numbers is at most n exactly if the largest is
-leb_largest : (n : ℕ) (xs : List ℕ) → all_at_most n xs ≡ leb (largest xs) n
+pub at_most_largest : (n : ℕ) (xs : List ℕ) → all_at_most n xs ≡ leb (largest xs) n
 unfolding largest all_at_most
-leb_largest n [] = sym (leb-zero n)
-leb_largest n (x ∷ xs) = rw (leb_max, ← leb_largest n xs)
-
--- the same where r is the largest
-pub at_most_largest : (n : ℕ) (xs : List ℕ) {r : ℕ} → r ≡ largest xs → all_at_most n xs ≡ leb r n
-at_most_largest n xs h = rw h (leb_largest n xs)
-
--- the largest is 0 exactly if each of them is
-pub none_largest : (xs : List ℕ) {r : ℕ} → r ≡ largest xs → all_at_most 0 xs ≡ eqb r 0
-none_largest xs {r} h = at_most_largest 0 xs h ∙ zero_test r
-  where
-    zero_test : (n : ℕ) → leb n 0 ≡ eqb n 0
-    zero_test zero = refl
-    zero_test (suc n) = leb-suc-zero n ∙ sym (eqb-suc-zero n)
+at_most_largest n [] = sym (leb-zero n)
+at_most_largest n (x ∷ xs) = rw (leb_max, ← at_most_largest n xs)

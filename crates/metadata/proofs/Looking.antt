@@ -1,5 +1,4 @@
 -- The loop of the search, from the last timestamp down.
---     instant_slot, instant_above    where an instant stands, and that none stands above the end
 --     Looked                         the loop's invariant
 --     look_first, look_hit, look_miss, look_end    its beginning, the ways on from a timestamp, its end
 use Prim.Native.Nat.{ℕ, zero, suc, ◌+◌, ◌-◌, ◌<◌, ◌≤◌, min}
@@ -8,31 +7,21 @@ use native.Mathlib.Omega.{arith}
 use mathlib.Core.List.{List}
 use mathlib.Core.Logic.{◌≢◌}
 use mathlib.Core.Path.{◌≡◌, refl, sym, ◌∙◌, ap}
-use lib.ListN.{get_or, length, get_or-eq_default}
 use borrow.Author.Tests.{lt-ltb, le-ltb}
 use Rattle.model.specs.State.{newest, completed}
 use Rattle.model.specs.Snapshot.{instant_of}
 use Rattle.model.proofs.CompletedInstants.{newest_hit, newest_miss, newest_of_lem}
-use Rattle.metadata.specs.Search.{newest_above}
-use Rattle.metadata.specs.declared.timeline.Search.TheVariants.{Hit, NoHit}
+use Rattle.metadata.specs.Search.{found, none_found, newest_above}
 use Rattle.metadata.proofs.SearchLaws.{newest_above_lem}
 
-module _ (timeline : List ℕ) where
-  pub instant_slot : (n : ℕ) → 0 < n → instant_of timeline n ≡ get_or timeline (n - 1) 0
-  instant_slot zero h = absurd (omega arith)
-  instant_slot (suc n) h = rw (sub-one (suc n))
+module _ (timeline : List ℕ) (g : ℕ) where
+  hit_at : (n : ℕ) → 0 < n → instant_of timeline n ≡ completed g → newest timeline g n ≡ n
+  hit_at zero p e = absurd (omega arith)
+  hit_at (suc n) p e = newest_hit timeline g n e
 
-  pub instant_above : (n : ℕ) → length timeline < n → instant_of timeline n ≡ 0
-  instant_above n l = instant_slot n (omega arith) ∙ get_or-eq_default timeline 0 {n = n - 1} (omega arith)
-
-  module _ (g : ℕ) where
-    hit_at : (n : ℕ) → 0 < n → instant_of timeline n ≡ completed g → newest timeline g n ≡ n
-    hit_at zero p e = absurd (omega arith)
-    hit_at (suc n) p e = newest_hit timeline g n e
-
-    miss_at : (n : ℕ) → 0 < n → instant_of timeline n ≢ completed g → newest timeline g n ≡ newest timeline g (n - 1)
-    miss_at zero p ne = absurd (omega arith)
-    miss_at (suc n) p ne = rw (sub-one (suc n)) (newest_miss timeline g n ne)
+  miss_at : (n : ℕ) → 0 < n → instant_of timeline n ≢ completed g → newest timeline g n ≡ newest timeline g (n - 1)
+  miss_at zero p ne = absurd (omega arith)
+  miss_at (suc n) p ne = rw (sub-one (suc n)) (newest_miss timeline g n ne)
 
 -- `count` timestamps have been looked at, those above n, and none of them is a hit
 pub record Looked (timeline : List ℕ) (g base last n count : ℕ) : Type 0 where
@@ -45,10 +34,10 @@ module _ {timeline : List ℕ} {g base last : ℕ} where
   look_first = record { counted = omega arith; low = omega arith; same = refl }
 
   module _ {n count : ℕ} (v : Looked timeline g base last n count) where
-    pub look_hit : base < n → instant_of timeline n ≡ completed g → Hit n (count + 1) ≡ newest_above timeline g base last
+    pub look_hit : base < n → instant_of timeline n ≡ completed g → found n (count + 1) ≡ newest_above timeline g base last
     look_hit lt e =
         let here : newest timeline g last ≡ n = v.same ∙ hit_at timeline g n (omega arith) e in
-        sym (newest_above_lem timeline g base last ∙ rw (here, lt-ltb base n lt) (ap (Hit n) (omega (arith, v.counted))))
+        sym (newest_above_lem timeline g base last ∙ rw (here, lt-ltb base n lt) (ap (found n) (omega (arith, v.counted))))
 
     pub look_miss : base < n → instant_of timeline n ≢ completed g → Looked timeline g base last (n - 1) (count + 1)
     look_miss lt ne =
@@ -58,7 +47,7 @@ module _ {timeline : List ℕ} {g base last : ℕ} where
           same = v.same ∙ miss_at timeline g n (omega arith) ne;
         }
 
-    pub look_end : n ≤ base → NoHit count ≡ newest_above timeline g base last
+    pub look_end : n ≤ base → none_found count ≡ newest_above timeline g base last
     look_end le =
         let low : newest timeline g last ≤ base = rw v.same (omega (arith, (newest_of_lem timeline g n).below)) in
-        sym (newest_above_lem timeline g base last ∙ rw (le-ltb base (newest timeline g last) low) (ap NoHit (omega (arith, v.counted, v.low))))
+        sym (newest_above_lem timeline g base last ∙ rw (le-ltb base (newest timeline g last) low) (ap none_found (omega (arith, v.counted, v.low))))

@@ -13,10 +13,10 @@ use Rattle.common.specs.Counting.{list_below, up_to}
 use Rattle.common.proofs.Cases.{cond_iff, by_test, facts}
 use Rattle.model.specs.State.{newest, completed}
 use Rattle.model.proofs.CompletedInstants.{newest_hit, newest_miss, newest_of_lem}
+use Rattle.std.specs.Prelude.{Option, Some, None, unwrap_or}
 use Rattle.metadata.specs.Largest.{largest}
-use Rattle.metadata.specs.Search.{is_hit, search_gives, newest_above}
+use Rattle.metadata.specs.Search.{is_hit, found, none_found, search_gives, newest_above}
 use Rattle.metadata.specs.declared.timeline.Search.{Search}
-use Rattle.metadata.specs.declared.timeline.Search.TheVariants.{Hit, NoHit}
 
 -- the timestamps from t up
 count_from : (t n : ℕ) → length (up_to n (leb t)) ≡ n + 1 - t
@@ -41,7 +41,7 @@ largest_up_to p (suc n) =
     (λ _. omega (arith, largest_last (up_to n p) (suc n) (omega arith)), λ _. rw (append-nil (up_to n p)) (omega arith))
 
 -- a hit above all others
-gives_last : (base last : ℕ) (ts : List ℕ) (t : ℕ) → largest ts ≤ t → search_gives base last (ts ++ t ∷ []) ≡ Hit t (length (up_to last (leb t)))
+gives_last : (base last : ℕ) (ts : List ℕ) (t : ℕ) → largest ts ≤ t → search_gives base last (ts ++ t ∷ []) ≡ found t (length (up_to last (leb t)))
 unfolding largest
 gives_last base last [] t le = rw (largest_last [] t le)
 gives_last base last (s ∷ ts) t le = rw (largest_last (s ∷ ts) t le)
@@ -52,7 +52,7 @@ module _ (timeline : List ℕ) (g base last : ℕ) where
 
   -- what the search gives where m is the newest completed timestamp
   abbrev gives_by : ℕ → Search
-  gives_by m = cond (ltb base m) (Hit m (length (up_to last (leb m)))) (NoHit (length (up_to last (ltb base))))
+  gives_by m = cond (ltb base m) (found m (length (up_to last (leb m)))) (none_found (length (up_to last (ltb base))))
 
   hit_next : (n : ℕ) → is_hit timeline g base (suc n) ≡ true → search_gives base last (hits (suc n)) ≡ gives_by (newest timeline g (suc n))
   unfolding up_to list_below
@@ -81,16 +81,23 @@ module _ (timeline : List ℕ) (g base last : ℕ) where
       by_test (is_hit timeline g base (suc n)) (hit_next n) (λ e. ap (search_gives base last) (miss_next n e) ∙ (by_newest n ∙ same_next n e))
 
   pub newest_above_lem : newest_above timeline g base last
-      ≡ cond (ltb base (newest timeline g last)) (Hit (newest timeline g last) (last + 1 - newest timeline g last)) (NoHit (last - base))
+      ≡ cond (ltb base (newest timeline g last)) (found (newest timeline g last) (last + 1 - newest timeline g last)) (none_found (last - base))
   unfolding newest_above
   newest_above_lem =
       let above : length (up_to last (ltb base)) ≡ last - base = count_from (suc base) last ∙ omega arith in
       by_newest last ∙ rw (count_from (newest timeline g last) last, above)
 
-  -- what a result tells of the newest completed timestamp
-  abbrev pub Told : Search → Type 0
-  Told (Hit t count) = (newest timeline g last ≡ t) × (base < newest timeline g last)
-  Told (NoHit count) = newest timeline g last ≤ base
+  -- what the hit of a search, or that there is none, tells of the newest completed timestamp
+  abbrev pub Told : Option ℕ → Type 0
+  Told (Some t) = (newest timeline g last ≡ t) × (base < newest timeline g last)
+  Told None = newest timeline g last ≤ base
 
-  pub tells : {r s : Search} → r ≡ newest_above timeline g base last → r ≡ s → Told s
-  tells e is = subst Told (sym (e ∙ newest_above_lem) ∙ is) (simp (cond_iff Told, facts) (λ above. (refl, above), λ low. omega arith))
+  pub tells : {r : Search} {hit : Option ℕ} → r ≡ newest_above timeline g base last → r.hit ≡ hit → Told hit
+  tells e is =
+      subst Told (sym (ap (λ (s : Search). s.hit) (e ∙ newest_above_lem)) ∙ is)
+      (simp (cond_iff (λ (s : Search). Told s.hit), facts) (λ above. (refl, above), λ low. omega arith))
+
+-- the hit of a search down to 0, or 0 with no hit, is the newest completed timestamp
+pub hit_or_zero : (timeline : List ℕ) (g last : ℕ) (hit : Option ℕ) → Told timeline g 0 last hit → unwrap_or hit 0 ≡ newest timeline g last
+hit_or_zero timeline g last (Some t) told = sym told.0
+hit_or_zero timeline g last None told = omega (arith, told)

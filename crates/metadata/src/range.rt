@@ -1,9 +1,9 @@
 // Answer 17: is every stored number of a table in its range?
 ghost use Rattle.std.specs.Prelude.{◌≡◌, Bool, ◌&&◌, List, ℕ, max, drop};
 ghost use Rattle.model.specs.State.{Notes, State, notes, state_of};
-ghost use Rattle.model.specs.Range.{writer_in_range, writers_in_range, notes_in_range, in_range};
+ghost use Rattle.model.specs.Range.{writer_in_range, writers_in_range, all_at_most, notes_in_range, in_range};
 ghost use Rattle.metadata.specs.Actor.{actor_in_range};
-ghost use Rattle.metadata.specs.Inner.{keeps_zeros};
+ghost use Rattle.metadata.specs.Inner.{keeps_zeros, shared_in_range};
 ghost use Rattle.model.specs.declared.Writer.{Writer};
 ghost use Rattle.metadata.specs.Largest.{largest};
 ghost use Rattle.metadata.specs.Parts.{with_parts};
@@ -27,55 +27,38 @@ fn writer_in_range(x: Writer, last: u8) -> bool
     if keeps_zeros(x) {
         return true;
     }
-    if x.key >= KEYS as u8 {
-        return false;
-    }
-    if x.group >= GROUPS as u8 {
-        return false;
-    }
-    if LAST_PHASE < x.phase {
-        return false;
-    }
-    if last < x.ts {
-        return false;
-    }
-    if last < x.base {
-        return false;
-    }
-    if x.phase == 0 {
-        return true;
-    }
-    0 < x.ts
+    x.key < KEYS as u8
+        && x.group < GROUPS as u8
+        && x.phase <= LAST_PHASE
+        && x.ts <= last
+        && x.base <= last
+        && (x.phase == 0 || 0 < x.ts)
 }
 
 // Is the record of a writer in range, and the last timestamp?
 pub fn actor_in_range(last: u8, x: Writer) -> bool
     ensures { result ≡ actor_in_range last x }
 {
-    if last > TIMESTAMPS as u8 {
-        return false;
-    }
-    writer_in_range(x, last)
+    last <= TIMESTAMPS as u8 && writer_in_range(x, last)
 }
 
-// The larger of two numbers.
-fn larger(a: u8, b: u8) -> u8
-    ensures { result ≡ max a b }
-{
-    if a < b { b } else { a }
-}
-
-// The largest number from a place on. The loop has no exit, so that it runs on whole vectors.
-fn largest(numbers: &[u8], from: usize) -> u8
-    ensures { result ≡ largest (drop from numbers.now) }
+// The largest of some numbers. The loop has no exit, so that it runs on whole vectors.
+fn largest(numbers: &[u8]) -> u8
+    ensures { result ≡ largest numbers.now }
 {
     let mut most: u8 = 0;
-    let mut i = from;
-    while i < numbers.len() {
-        most = larger(most, numbers[i]);
-        i += 1;
+    for x in numbers {
+        most = most.max(*x);
     }
     most
+}
+
+// Is each of some numbers at most n?
+#[tactic(auto, using(crate::proofs::Largest::at_most_largest))]
+fn all_at_most(n: u8, numbers: &[u8]) -> bool
+    ensures { result ≡ all_at_most n numbers.now }
+{
+    largest(numbers) <= n
 }
 
 // Are the horizon and the numbers that all writers share in range? If so, the writers decide, and what is noted.
@@ -86,26 +69,14 @@ fn shared_in_range<'a>(
     index: &'a [u8; KEYS],
     timeline: &'a [u8; TIMESTAMPS],
 ) -> bool
-    ensures { (st : State) (ws : List Writer) (n : Notes) → st.horizon ≡ horizon
-        → in_range (with_parts st last locks.now ws index.now timeline.now n)
-        ≡ (result && (writers_in_range last ws && notes_in_range last n)) }
+    ensures { result ≡ shared_in_range horizon last locks.now index.now timeline.now }
 {
-    if last > TIMESTAMPS as u8 {
-        return false;
-    }
-    if horizon > last {
-        return false;
-    }
-    if largest(locks, 0) > WRITERS as u8 {
-        return false;
-    }
-    if largest(index, 0) > GROUPS as u8 {
-        return false;
-    }
-    if largest(timeline, 0) > LARGEST {
-        return false;
-    }
-    largest(timeline, last as usize) == NONE
+    last <= TIMESTAMPS as u8
+        && horizon <= last
+        && all_at_most(WRITERS as u8, locks)
+        && all_at_most(GROUPS as u8, index)
+        && all_at_most(LARGEST, timeline)
+        && all_at_most(NONE, &timeline[last as usize..])
 }
 
 // Is what is noted for the candidates of a commit in range?
@@ -117,17 +88,21 @@ fn notes_in_range<'a>(
 ) -> bool
     ensures { result ≡ notes_in_range last (notes places.now counts.now noted.now) }
 {
-    if largest(places, 0) > TIMESTAMPS as u8 {
-        return false;
-    }
-    if largest(counts, 0) > TIMESTAMPS as u8 {
-        return false;
-    }
-    largest(noted, 0) <= last
+    all_at_most(TIMESTAMPS as u8, places)
+        && all_at_most(TIMESTAMPS as u8, counts)
+        && all_at_most(last, noted)
+}
+
+// Are the records of all writers in range?
+fn writers_in_range(last: u8, writers: &[Writer; WRITERS]) -> bool
+    ensures { result ≡ writers_in_range last writers.now }
+{
+    writers.iter().all(|x| writer_in_range(*x, last))
 }
 
 // Is every stored number of a table in its range? The table comes in its parts, so that no caller copies it whole for the test, and the writers are
 // tested here, so that they are not copied on.
+#[tactic(auto, using(crate::proofs::Parts::parts_lem))]
 pub fn parts_in_range<'a>(
     horizon: u8,
     last: u8,
@@ -143,20 +118,9 @@ pub fn parts_in_range<'a>(
         → result ≡ in_range (with_parts st last locks.now writers index.now timeline.now
         (notes places.now counts.now noted.now)) }
 {
-    if !shared_in_range(horizon, last, locks, index, timeline) {
-        return false;
-    }
-    if !notes_in_range(last, places, counts, noted) {
-        return false;
-    }
-    let mut w: usize = 0;
-    while w < WRITERS {
-        if !writer_in_range(writers[w], last) {
-            return false;
-        }
-        w += 1;
-    }
-    true
+    shared_in_range(horizon, last, locks, index, timeline)
+        && writers_in_range(last, &writers)
+        && notes_in_range(last, places, counts, noted)
 }
 
 // The same of a table. Its rows have no number with a range.

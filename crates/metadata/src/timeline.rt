@@ -6,11 +6,11 @@ ghost use Rattle.metadata.specs.Search.{newest_above};
 
 use model::instants::{COMPLETED, NONE};
 
-// What a search gives: the newest hit, or that there is none, and how many timestamps it looked at.
+// What a search gives: the newest hit, if there is one, and how many timestamps it looked at.
 #[derive(Clone, Copy)]
-pub enum Search {
-    Hit { ts: u8, looked_at: u8 },
-    NoHit { looked_at: u8 },
+pub struct Search {
+    pub hit: Option<u8>,
+    pub looked_at: u8,
 }
 
 // The instant of a timestamp, or none: at timestamp 0, and past the timeline's end.
@@ -20,11 +20,7 @@ pub fn instant_of(timeline: &[u8], at: u64) -> u8
     if at == 0 {
         return NONE;
     }
-    if at > timeline.len() as u64 {
-        return NONE;
-    }
-    let slot = (at - 1) as usize;
-    timeline[slot]
+    timeline.get(at as usize - 1).copied().unwrap_or(NONE)
 }
 
 // Is the instant of a timestamp completed in a file group?
@@ -40,25 +36,25 @@ fn completed_in(timeline: &[u8], ts: usize, group: u8) -> bool
 pub fn newest_above(timeline: &[u8], group: u8, base: u8, last: u8) -> Search
     ensures { result ≡ newest_above timeline.now group base last }
 {
-    let mut n = last as usize;
     let mut looked_at: u8 = 0;
-    while (base as usize) < n {
+    for n in (base as usize + 1..=last as usize).rev() {
         looked_at += 1;
         if completed_in(timeline, n, group) {
-            let ts = n as u8;
-            return Search::Hit { ts, looked_at };
+            return Search {
+                hit: Some(n as u8),
+                looked_at,
+            };
         }
-        n -= 1;
     }
-    Search::NoHit { looked_at }
+    Search {
+        hit: None,
+        looked_at,
+    }
 }
 
 // The largest completed timestamp of a file group at or below `upto`, or 0: the same search, down to the first timestamp.
 pub fn newest_of(timeline: &[u8], group: u8, upto: u8) -> u8
     ensures { result ≡ newest timeline.now group upto }
 {
-    match newest_above(timeline, group, 0, upto) {
-        Search::Hit { ts, looked_at: _ } => ts,
-        Search::NoHit { looked_at: _ } => 0,
-    }
+    newest_above(timeline, group, 0, upto).hit.unwrap_or(0)
 }

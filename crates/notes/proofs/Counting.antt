@@ -1,19 +1,18 @@
 -- Completed instants, counted by a loop, and one of them taken out of the count.
---     CountTurn                what holds at each turn: count_starts, count_fits, count_goes_on, count_ends
---     others_none, others_past, others_less    the count of the others: of a timestamp that has no instant, and of one that has
---     set_past, set_slot                       a number set in a list with one for each timestamp
+--     CountTurn      what holds at each turn: count_goes_on, count_ends
+--     others_less    the count of the others, of a timestamp that has an instant
 use Prim.Native.Nat.{ℕ, zero, suc, ◌+◌, ◌-◌, ◌≤◌, ◌<◌}
 use native.Mathlib.Numerals.{add-one, sub-one}
 use native.Mathlib.Omega.{arith}
-use mathlib.Core.Path.{◌≡◌, refl, ap}
+use mathlib.Core.Path.{◌≡◌, refl}
 use mathlib.Core.List.{List, [], ◌∷◌}
 use mathlib.Core.Bool.{cond}
 use lib.ListN.{length, get_or, set, drop, drop_of_length-le}
-use lib.Seq.{drop-cons, set_out}
+use lib.Seq.{drop-cons}
 use Rattle.common.proofs.Cases.{by_test}
 use Rattle.model.specs.Limits.{timestamps}
 use Rattle.model.specs.State.{has_completed}
-use Rattle.model.specs.Notes.{completed_count, set_timestamp, others_completed}
+use Rattle.model.specs.Notes.{completed_count, others_completed}
 use Rattle.notes.specs.Inner.{CountIs}
 
 -- what an instant counts
@@ -39,13 +38,7 @@ pub record CountTurn (n : ℕ) (l : List ℕ) (count i : ℕ) : Type 0 where
   pub small : count ≤ i
   pub is : count + completed_count (drop i l) ≡ completed_count l
 
-pub count_starts : {n : ℕ} {l : List ℕ} → length l ≡ n → CountTurn n l 0 0
-count_starts size = record { size = size; low = omega arith; small = omega arith; is = omega arith }
-
 module _ {l : List ℕ} {count i : ℕ} (h : CountTurn timestamps l count i) where
-  pub count_fits : {one : ℕ} → i < length l → one ≡ counted (get_or l i 0) → count + one ≤ timestamps
-  count_fits lt e = omega (arith, h.size, h.small, counts_one (get_or l i 0) e)
-
   pub count_goes_on : {one : ℕ} → i < length l → one ≡ counted (get_or l i 0) → CountTurn timestamps l (count + one) (i + 1)
   count_goes_on {one} lt e =
       let turn : completed_count (drop i l) ≡ counted (get_or l i 0) + completed_count (drop (i + 1) l) =
@@ -57,10 +50,6 @@ module _ {l : List ℕ} {count i : ℕ} (h : CountTurn timestamps l count i) whe
       let behind : completed_count (drop i l) ≡ 0 = rw (drop_of_length-le l {i = i} le) none_counted in
       record { is = omega (arith, h.is, behind); most = omega (arith, h.small, h.low) }
 
--- a count of the same number
-pub counted_as : {r m n : ℕ} → CountIs r m → n ≡ m → CountIs r n
-counted_as h e = record { is = omega (arith, h.is); most = h.most }
-
 -- one instant taken out of the count
 count_without : (l : List ℕ) (i : ℕ) → i < length l → completed_count l ≡ completed_count (set l i 0) + counted (get_or l i 0)
 unfolding completed_count
@@ -70,22 +59,6 @@ count_without (x ∷ l) (suc i) lt =
     let rest = count_without l i (omega arith) in
     by_test (has_completed x) (λ e. rw e (omega (arith, rest))) (λ e. rw e (omega (arith, rest)))
 
--- timestamp 0, and one past the last, has no instant to take out
-pub others_none : (l : List ℕ) (n : ℕ) → n ≡ 0 → others_completed l n ≡ completed_count l
-others_none l n e = rw e
-
-pub others_past : (l : List ℕ) (n : ℕ) → length l ≤ n - 1 → 0 < n → others_completed l n ≡ completed_count l
-others_past l zero le pos = absurd (omega arith)
-others_past l (suc m) le pos = ap completed_count (set_out l m 0 (rw (sub-one (suc m)) at le))
-
 pub others_less : (l : List ℕ) (n : ℕ) {own : ℕ} → n - 1 < length l → 0 < n → own ≡ counted (get_or l (n - 1) 0) → completed_count l ≡ others_completed l n + own
 others_less l zero lt pos e = absurd (omega arith)
 others_less l (suc m) lt pos e = rw (e, sub-one (suc m)) (count_without l m (rw (sub-one (suc m)) at lt))
-
-pub set_past : (l : List ℕ) (n x : ℕ) → length l ≤ n - 1 → 0 < n → set_timestamp l n x ≡ l
-set_past l zero x le pos = absurd (omega arith)
-set_past l (suc m) x le pos = set_out l m x (rw (sub-one (suc m)) at le)
-
-pub set_slot : (l : List ℕ) (n x : ℕ) → 0 < n → set_timestamp l n x ≡ set l (n - 1) x
-set_slot l zero x pos = absurd (omega arith)
-set_slot l (suc m) x pos = rw (sub-one (suc m))

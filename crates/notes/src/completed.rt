@@ -11,7 +11,7 @@ use model::instants::COMPLETED;
 fn one_if_completed(instant: u8) -> u8
     ensures { result ≡ cond (has_completed instant) 1 0 }
 {
-    if instant >= COMPLETED { 1 } else { 0 }
+    u8::from(instant >= COMPLETED)
 }
 
 // How many instants are completed. The loop has no exit, so that it runs on whole vectors.
@@ -20,10 +20,8 @@ pub fn completed_count(timeline: &[u8]) -> u8
     ensures { CountIs result (completed_count timeline.now) }
 {
     let mut count: u8 = 0;
-    let mut i: usize = 0;
-    while i < timeline.len() {
-        count += one_if_completed(timeline[i]);
-        i += 1;
+    for instant in timeline {
+        count += one_if_completed(*instant);
     }
     count
 }

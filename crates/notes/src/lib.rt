@@ -20,33 +20,24 @@ use rows::{held_timestamps, note_row};
 fn is_start(action: Action) -> bool
     ensures { result ≡ noting.is_start action }
 {
-    match action {
-        Action::Start(_) => true,
-        Action::LookUp => false,
-        Action::Read => false,
-        Action::Write => false,
-        Action::Index => false,
-        Action::Check => false,
-        Action::Commit => false,
-        Action::Abort => false,
-    }
+    matches!(action, Action::Start(_))
 }
 
 // Writer w's operation starts.
 fn note_start(
     w: usize,
-    writers: [Writer; WRITERS],
+    writers: &[Writer; WRITERS],
     timeline: &[u8; TIMESTAMPS],
     counts: &mut [u8; WRITERS],
     noted: &mut [u8; NOTED],
 )
     requires { w < limits.writers }
     ensures { (places : List ℕ) → notes places counts.new noted.new
-        ≡ noting.start_noted (notes places counts.old noted.old) w writers timeline.now }
+        ≡ noting.start_noted (notes places counts.old noted.old) w writers.now timeline.now }
 {
     counts[w] = completed_count(timeline);
     let held = held_timestamps(writers);
-    note_row(w, held, &mut *noted);
+    note_row(w, &held, &mut *noted);
 }
 
 // Writer w's operation ends or commits: the writer keeps neither its count nor the timestamps.
@@ -57,11 +48,12 @@ fn note_end(w: usize, counts: &mut [u8; WRITERS], noted: &mut [u8; NOTED])
 {
     counts[w] = 0;
     let zeros = [0u8; WRITERS];
-    note_row(w, zeros, &mut *noted);
+    note_row(w, &zeros, &mut *noted);
 }
 
 // What is noted after an action of writer w and its answer: the writer's timestamp and the writers are as before it, the timeline as after it. A refusal
 // notes nothing, and so does a writer past the last. The timestamp is handed in, so that the writers are asked at a start alone and not copied at each step.
+// The answer is a number: `note` promises what is noted after any number, also one that no paper names.
 pub fn note(
     w: usize,
     action: Action,
@@ -84,7 +76,7 @@ pub fn note(
     }
     if answer == TAKEN {
         if is_start(action) {
-            note_start(w, writers, timeline, &mut *counts, &mut *noted);
+            note_start(w, &writers, timeline, &mut *counts, &mut *noted);
         }
         return;
     }

@@ -15,26 +15,21 @@ fn held_by(x: Writer) -> u8
 }
 
 // The timestamps that the operations in progress hold, one for each writer.
-pub fn held_timestamps(writers: [Writer; WRITERS]) -> [u8; WRITERS]
-    ensures { HeldBy result writers }
+pub fn held_timestamps(writers: &[Writer; WRITERS]) -> [u8; WRITERS]
+    ensures { HeldBy result writers.now }
 {
     let mut held = [0u8; WRITERS];
-    let mut u: usize = 0;
-    while u < WRITERS {
-        held[u] = held_by(writers[u]);
-        u += 1;
+    for (u, x) in writers.iter().enumerate() {
+        held[u] = held_by(*x);
     }
     held
 }
 
 // The row of writer w is set.
-pub fn note_row(w: usize, row: [u8; WRITERS], noted: &mut [u8; NOTED])
+pub fn note_row(w: usize, row: &[u8; WRITERS], noted: &mut [u8; NOTED])
     requires { w < writers }
-    ensures { noted.new ≡ row_noted noted.old w (λ u. get_or row u 0) writers }
+    ensures { noted.new ≡ row_noted noted.old w (λ u. get_or row.now u 0) writers }
 {
-    let mut slot: usize = 0;
-    while slot < WRITERS {
-        noted[w * WRITERS + slot] = row[slot];
-        slot += 1;
-    }
+    let start = w * WRITERS;
+    noted[start..start + WRITERS].copy_from_slice(row);
 }

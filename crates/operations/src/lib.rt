@@ -20,12 +20,7 @@ fn key_of(op: Operation) -> Word
     ensures { result ≡ rules.key_of op }
 {
     match op {
-        Operation::Put {
-            key,
-            value: _,
-            group: _,
-        } => key,
-        Operation::Remove { key } => key,
+        Operation::Put { key, .. } | Operation::Remove { key } => key,
     }
 }
 
@@ -34,12 +29,8 @@ fn group_of(op: Operation) -> Word
     ensures { result ≡ rules.group_of op }
 {
     match op {
-        Operation::Put {
-            key: _,
-            value: _,
-            group,
-        } => group,
-        Operation::Remove { key: _ } => 0,
+        Operation::Put { group, .. } => group,
+        Operation::Remove { .. } => 0,
     }
 }
 
@@ -48,12 +39,8 @@ fn puts_erased(op: Operation) -> bool
     ensures { result ≡ rules.puts_erased op }
 {
     match op {
-        Operation::Put {
-            key: _,
-            value,
-            group: _,
-        } => value == ERASED_WORD,
-        Operation::Remove { key: _ } => false,
+        Operation::Put { value, .. } => value == ERASED_WORD,
+        Operation::Remove { .. } => false,
     }
 }
 
@@ -87,6 +74,7 @@ fn begin(op: Operation, ts: u8) -> Writer
 }
 
 // 1. Start: the next timestamp is issued, its instant requested.
+#[tactic(auto, unfolding(model::specs::Rules::start))]
 pub fn start(x: Writer, op: Operation, last: &mut u8, timeline: &mut [u8; TIMESTAMPS]) -> Verdict
     ensures { Follows x result (together (changing with_last last) (changing with_timeline timeline)) (λ s. rules.start x s op) }
 {

@@ -9,7 +9,7 @@ ghost use Rattle.verdicts.specs.Verdicts.{Follows};
 ghost use Rattle.rules.specs.Inner.{Bounds};
 
 use locks::{after_index, blocked, may_check, names_other, take_lock};
-use metadata::{Search, newest_above, newest_of};
+use metadata::{newest_above, newest_of};
 use model::answers::{
     ABORTED, COMMITTED, GROUP_CHANGED, GROUP_LOCKED, NOT_INDEXED, OTHER_GROUP, TABLE_LOCKED,
     TOO_LATE, WRONG_PHASE,
@@ -22,6 +22,7 @@ use slices::store_slice;
 use verdicts::{Verdict, moved, with_made};
 
 // 2. Look up: the file group that the index has for the key, or the one that a put proposes; an unindexed remove ends.
+#[tactic(auto, unfolding(model::specs::Rules::look_up))]
 fn look_up(x: Writer, index: &[u8; KEYS]) -> Verdict
     requires { Bounds x }
     ensures { Follows x result (reading with_index index.now) (rules.look_up x) }
@@ -42,6 +43,7 @@ fn look_up(x: Writer, index: &[u8; KEYS]) -> Verdict
 
 // 3. Read: the base is the file group's newest completed timestamp, unless that is above the writer's own; the instant is inflight. In a pessimistic
 // table writer w takes the group's lock, unless it is another writer's.
+#[tactic(auto, unfolding(model::specs::Rules::read_base))]
 fn read_base(
     mode: Mode,
     x: Writer,
@@ -72,6 +74,7 @@ fn read_base(
 }
 
 // 4. Write: the slice is stored; no read shows it while the instant is inflight.
+#[tactic(auto, unfolding(model::specs::Rules::write_slice), using(crate::proofs::Bounds::slice_stored_lem))]
 fn write_slice(x: Writer, present: &mut [bool; ROWS], values: &mut [Value; ROWS]) -> Verdict
     requires { Bounds x }
     ensures { Follows x result (together (changing with_present present) (changing with_values values)) (rules.write_slice x) }
@@ -87,14 +90,12 @@ fn write_slice(x: Writer, present: &mut [bool; ROWS], values: &mut [Value; ROWS]
 fn removes_unindexed(put: bool, entry: u8) -> bool
     ensures { result ≡ (not put && eqb entry 0) }
 {
-    if put {
-        return false;
-    }
-    entry == 0
+    !put && entry == 0
 }
 
 // 5. Index: writer w enters its key, unless the key is another group's, or a remove's key no longer indexed. Its flag says whether it has made the entry.
 // In an optimistic table it takes the table lock, unless that is another writer's.
+#[tactic(auto, unfolding(model::specs::Rules::enter_index))]
 fn enter_index(
     mode: Mode,
     x: Writer,
@@ -131,16 +132,14 @@ fn check_conflict(mode: Mode, x: Writer, last: u8, timeline: &[u8; TIMESTAMPS]) 
     if !may_check(mode, x.phase) {
         return Verdict::Refused(WRONG_PHASE);
     }
-    match newest_above(timeline, x.group, x.base, last) {
-        Search::Hit {
-            ts: _,
-            looked_at: _,
-        } => Verdict::Ended(GROUP_CHANGED),
-        Search::NoHit { looked_at: _ } => Verdict::GoesOn(moved(x, 6, x.group, x.base)),
+    match newest_above(timeline, x.group, x.base, last).hit {
+        Some(_) => Verdict::Ended(GROUP_CHANGED),
+        None => Verdict::GoesOn(moved(x, 6, x.group, x.base)),
     }
 }
 
 // 7. Commit: the instant is completed, and readers see its slice.
+#[tactic(auto, unfolding(model::specs::Rules::commit))]
 fn commit(x: Writer, timeline: &mut [u8; TIMESTAMPS]) -> Verdict
     requires { Bounds x }
     ensures { Follows x result (changing with_timeline timeline) (rules.commit x) }
@@ -154,6 +153,7 @@ fn commit(x: Writer, timeline: &mut [u8; TIMESTAMPS]) -> Verdict
 }
 
 // 8. Abort, document 01's give up: the operation ends, at any phase but 0.
+#[tactic(auto, unfolding(model::specs::Rules::abort))]
 fn abort(x: Writer) -> Verdict
     ensures { Follows x result no_field (rules.abort x) }
 {

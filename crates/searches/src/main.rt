@@ -13,19 +13,15 @@ const LAST: u8 = 128;
 
 // What a search gave: the hit, or that there is none, and how many timestamps it looked at.
 fn print(out: &mut impl Write, found: Search) -> io::Result<()> {
-    match found {
-        Search::Hit { ts, looked_at } => {
+    match found.hit {
+        Some(ts) => {
             text(out, b" hit")?;
             number(out, ts as u64)?;
-            text(out, b", looked at")?;
-            number(out, looked_at as u64)?;
         }
-        Search::NoHit { looked_at } => {
-            text(out, b" no hit, looked at")?;
-            number(out, looked_at as u64)?;
-        }
+        None => text(out, b" no hit")?,
     }
-    Ok(())
+    text(out, b", looked at")?;
+    number(out, found.looked_at as u64)
 }
 
 // The search for a file group from a last timestamp down to a base, and the newest of the group up to the last timestamp.
@@ -45,21 +41,22 @@ fn search(out: &mut impl Write, timeline: &[u8], group: u8, base: u8, last: u8) 
 
 // Every base and last timestamp up to 9.
 fn search_all(out: &mut impl Write, timeline: &[u8], group: u8) -> io::Result<()> {
-    for i in 0..100 {
-        search(out, timeline, group, i / 10, i % 10)?;
+    for base in 0..10 {
+        for last in 0..10 {
+            search(out, timeline, group, base, last)?;
+        }
     }
     Ok(())
 }
 
-// Searches, each three numbers: file group, base and last timestamp.
-fn search_each(out: &mut impl Write, timeline: &[u8], numbers: &[u8]) -> io::Result<()> {
-    let mut i: usize = 0;
-    while i < numbers.len() {
-        if numbers.len() - i < 3 {
-            return Ok(());
-        }
-        search(out, timeline, numbers[i], numbers[i + 1], numbers[i + 2])?;
-        i += 3;
+// Searches, each by its file group, base and last timestamp.
+fn search_each(
+    out: &mut impl Write,
+    timeline: &[u8],
+    searches: &[(u8, u8, u8)],
+) -> io::Result<()> {
+    for (group, base, last) in searches {
+        search(out, timeline, *group, *base, *last)?;
     }
     Ok(())
 }
@@ -95,12 +92,12 @@ fn eight_instants(out: &mut impl Write) -> io::Result<()> {
     search_each(
         out,
         &timeline,
-        &[1, 5, 255, 1, 6, 255, 2, 0, 255, 0, 0, LAST],
+        &[(1, 5, 255), (1, 6, 255), (2, 0, 255), (0, 0, LAST)],
     )?;
     search_each(
         out,
         &timeline,
-        &[1, LAST, LAST + 1, 1, 254, 255, 1, 255, 255, 1, 255, 0],
+        &[(1, LAST, LAST + 1), (1, 254, 255), (1, 255, 255), (1, 255, 0)],
     )
 }
 
@@ -114,12 +111,12 @@ fn whole_timeline(out: &mut impl Write) -> io::Result<()> {
     search_each(
         out,
         &timeline,
-        &[7, 0, LAST, 7, 9, LAST, 7, 9, 255, 7, LAST, LAST],
+        &[(7, 0, LAST), (7, 9, LAST), (7, 9, 255), (7, LAST, LAST)],
     )?;
     search_each(
         out,
         &timeline,
-        &[7, 0, LAST - 1, 7, 9, LAST - 1, 7, 0, 8, 6, 0, LAST],
+        &[(7, 0, LAST - 1), (7, 9, LAST - 1), (7, 0, 8), (6, 0, LAST)],
     )
 }
 
@@ -130,26 +127,22 @@ fn no_such_groups(out: &mut impl Write) -> io::Result<()> {
     search_each(
         out,
         &timeline,
-        &[244, 0, 3, 245, 0, 3, 245, 1, 3, 246, 0, 3, 255, 0, 3],
+        &[(244, 0, 3), (245, 0, 3), (245, 1, 3), (246, 0, 3), (255, 0, 3)],
     )
 }
 
 fn instants(out: &mut impl Write) -> io::Result<()> {
     let timeline = [COMPLETED + 7, REQUESTED, 255];
     report::title(out, b"The instants of a short timeline")?;
-    instant(out, &timeline, 0)?;
-    instant(out, &timeline, 1)?;
-    instant(out, &timeline, 2)?;
-    instant(out, &timeline, 3)?;
-    instant(out, &timeline, 4)?;
-    instant(out, &timeline, 257)?;
-    instant(out, &timeline, 4294967297)?;
-    instant(out, &timeline, u64::MAX)
+    for at in [0, 1, 2, 3, 4, 257, 4294967297, u64::MAX] {
+        instant(out, &timeline, at)?;
+    }
+    Ok(())
 }
 
 fn empty_timeline(out: &mut impl Write) -> io::Result<()> {
     report::title(out, b"An empty timeline")?;
-    search_each(out, &[], &[0, 0, 3, 0, 2, 5])?;
+    search_each(out, &[], &[(0, 0, 3), (0, 2, 5)])?;
     instant(out, &[], 1)
 }
 

@@ -2,6 +2,7 @@
 use Rattle.std.specs.Prelude.{ℕ, ◌+◌, true, false, cond, length, get_or, take, replicate}
 use mathlib.Core.List.{List, [], ◌∷◌, ◌++◌, flatten, map}
 use Rattle.std.proofs.Math.Option.{Option, none, some}
+use Rattle.std.specs.Option.{unwrap_or, option_map}
 use Rattle.leb128.specs.Coding.{encoded, decoded_at, decoded_numbers}
 use Rattle.common.specs.Counting.{list_below}
 use Rattle.model.specs.Limits.{writers}
@@ -22,7 +23,6 @@ use Rattle.model.specs.declared.Action.TheVariants.{Start, LookUp, Read, Write, 
 use Rattle.model.specs.declared.Step.{Step}
 use Rattle.metadata.specs.Search.{newest_above}
 use Rattle.metadata.specs.declared.timeline.Search.{Search}
-use Rattle.metadata.specs.declared.timeline.Search.TheVariants.{Hit, NoHit}
 use Rattle.steplog.specs.Records.{numbers_of, record_at, record_numbers, LogRead}
 use Rattle.logwriter.specs.Writing.{LogWritten, log_written}
 use Rattle.run.specs.Runs.{Input, Run}
@@ -124,8 +124,7 @@ history_numbers h = h.last ∷ list_below writers (λ w. pending_numbers (h.pend
 
 -- what a search of the timeline gives: 0 for no hit, or 1 and the hit; then the count of the timestamps looked at
 abbrev pub search_numbers : Search → List ℕ
-search_numbers (NoHit n) = 0 ∷ n ∷ []
-search_numbers (Hit t n) = 1 ∷ t ∷ n ∷ []
+search_numbers r = unwrap_or (option_map (λ t. 1 ∷ t ∷ []) r.hit) (0 ∷ []) ++ r.looked_at ∷ []
 
 -- writer w does a
 abbrev pub does : ℕ → Action → Step

@@ -16,6 +16,7 @@ use model::limits::{GROUPS, KEYS};
 pub use writer::{moved, ready, with_made};
 
 // What a rule says of a step: it is refused, or the operation ends, or the writer goes on as the record given.
+// Answers are numbers here: `carry_out` promises what any number comes to, also one that no paper names.
 #[derive(Clone, Copy)]
 pub enum Verdict {
     Refused(u8),
@@ -24,6 +25,7 @@ pub enum Verdict {
 }
 
 // What an action gave: its answer, and the writer's record after it.
+// The answer is a number: `carry_out` and `rules::act` promise it as the number that the verdict had.
 #[derive(Clone, Copy)]
 pub struct Acted {
     pub answer: u8,

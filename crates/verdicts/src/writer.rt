@@ -27,13 +27,9 @@ pub fn moved(x: Writer, phase: u8, group: u8, base: u8) -> Writer
 {
     Writer {
         phase,
-        put: x.put,
-        made: x.made,
-        key: x.key,
         group,
-        ts: x.ts,
         base,
-        value: x.value,
+        ..x
     }
 }
 
@@ -41,14 +37,5 @@ pub fn moved(x: Writer, phase: u8, group: u8, base: u8) -> Writer
 pub fn with_made(x: Writer, made: bool) -> Writer
     ensures { result ≡ rules.with_made x made }
 {
-    Writer {
-        phase: x.phase,
-        put: x.put,
-        made,
-        key: x.key,
-        group: x.group,
-        ts: x.ts,
-        base: x.base,
-        value: x.value,
-    }
+    Writer { made, ..x }
 }

@@ -1,25 +1,21 @@
--- `bases_kept` meets its contract. The loop's invariant: no writer passed would lose its base. The measure is the number of writers left.
-use native.Mathlib.Omega.{arith}
+-- `bases_kept` meets its contract: the test of each writer is that of each place.
 use mathlib.Core.Bool.{not}
-use mathlib.Core.Path.{◌≡◌, sym, ap, ◌∙◌}
+use mathlib.Core.Path.{sym, ◌∙◌}
 use borrow.Author.Rules.{rules}
-use borrow.Author.Count.{below_none, below_more}
-use Rattle.common.proofs.EachBelow.{below_all, below_stop}
-use Rattle.model.specs.Limits.{writers}
-use Rattle.model.specs.Cleaning.{bases_kept}
+use borrow.Author.Tests.{tests}
+use Rattle.std.proofs.lemmas.Iterator.{YieldsList-from_slice}
+use Rattle.std.proofs.lemmas.Iterator.Search.{all_from_yields_List}
+use Rattle.model.specs.State.{ready}
+use Rattle.model.specs.Cleaning.{loses_base, bases_kept}
+use Rattle.model.specs.declared.Writer.{Writer}
+use Rattle.metadata.proofs.Parts.{below_list}
 use Rattle.cleaning.proofs.bases_kept.Goals as goal
-
-pub loop-w-init : goal.loop-w-init
-loop-w-init c = (search rules, below_none _)
-
-pub returns-then-loses_base : goal.returns-then-loses_base
-unfolding bases_kept
-returns-then-loses_base c = sym (below_stop _ writers _ (omega arith) (ap not (sym c.loses_base.ensures ∙ c.if-loses_base.true)))
-
-pub loop-w-preserved : goal.loop-w-preserved
-loop-w-preserved c =
-    (omega arith, below_more _ _ c.loop-w.invariant.1 (ap not (sym c.loses_base.ensures ∙ c.if-loses_base.false)))
 
 pub returns : goal.returns
 unfolding bases_kept
-returns c = let z : c.loop-w.w ≡ writers = omega arith in sym (below_all _ writers (rw z at c.loop-w.invariant.1))
+returns c =
+    let a = c.args in
+    let xs = a.writers.now in
+    let test = λ (x : Writer). not (loses_base a.timeline.now a.at x) in
+    all_from_yields_List test _ _ _ c.all.ensures.ran (YieldsList-from_slice xs cc) (λ x b q k. search (rules, tests))
+    ∙ sym (below_list test ready xs c.told-writers)

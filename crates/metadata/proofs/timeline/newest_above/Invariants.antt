@@ -1,10 +1,6 @@
--- `newest_above` meets its contract. The loop's invariant: `looked_at` timestamps have been looked at, those above n, and none is a hit. The
--- measure is n.
+-- `newest_above` meets its contract. The loop's invariant: `looked_at` timestamps have been looked at, those above n, and none is a hit.
 use Rattle.metadata.proofs.Looking.{Looked}
 use Rattle.metadata.proofs.timeline.newest_above.Given as goal
 
 abbrev pub invariant-loop-n : goal.invariant-loop-n
 invariant-loop-n l = Looked l.timeline l.group l.base l.last l.n l.looked_at
-
-abbrev pub decreases-loop-n : goal.decreases-loop-n
-decreases-loop-n l = l.n

@@ -1,6 +1,4 @@
--- `held_timestamps` meets its contract. The loop's invariant: each writer passed has been asked; the measure is the
--- number of writers left.
-use Prim.Native.Nat.{◌-◌}
+-- `held_timestamps` meets its contract. The loop's invariant: each writer passed has been asked.
 use lib.ListN.{get_or}
 use Rattle.model.specs.Limits.{writers}
 use Rattle.model.specs.State.{ready}
@@ -10,6 +8,3 @@ use Rattle.notes.proofs.rows.held_timestamps.Given as goal
 
 abbrev pub invariant-loop-u : goal.invariant-loop-u
 invariant-loop-u l = SetUpto 0 (λ j. held_by (get_or l.writers j ready)) writers l.held l.u
-
-abbrev pub decreases-loop-u : goal.decreases-loop-u
-decreases-loop-u l = writers - l.u

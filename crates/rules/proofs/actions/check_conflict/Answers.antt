@@ -8,14 +8,14 @@ pub returns-then-not-may_check : goal.returns-then-not-may_check
 unfolding check_conflict
 returns-then-not-may_check c = λ w s. record { same = rw (← c.may_check.ensures, c.if-not-may_check.true) }
 
-pub returns-in-Hit : goal.returns-in-Hit
+pub returns-in-Some : goal.returns-in-Some
 unfolding check_conflict
-returns-in-Hit c =
-    let told = tells _ _ _ _ c.newest_above.ensures c.in-Hit.is in
+returns-in-Some c =
+    let told = tells _ _ _ _ c.newest_above.ensures c.in-Some.is in
     λ w s. record { same = rw (← c.may_check.ensures, c.if-not-may_check.false, lt-ltb _ _ told.1) }
 
-pub returns-in-NoHit : goal.returns-in-NoHit
+pub returns-in-None : goal.returns-in-None
 unfolding check_conflict
-returns-in-NoHit c =
-    let told = tells _ _ _ _ c.newest_above.ensures c.in-NoHit.is in
+returns-in-None c =
+    let told = tells _ _ _ _ c.newest_above.ensures c.in-None.is in
     λ w s. record { same = rw (c.moved.ensures, ← c.may_check.ensures, c.if-not-may_check.false, le-ltb _ _ told) }

@@ -1,11 +1,7 @@
 -- `enter_index` follows its rule: by the tests of the rule, which have the values that the branches show.
-use borrow.Author.Tests.{eq-eqb, ne_eqb}
+use borrow.Author.Tests.{eq-eqb}
 use Rattle.model.specs.Rules.{enter_index}
 use Rattle.rules.proofs.actions.enter_index.Goals as goal
-
-pub returns-then-x-ne4 : goal.returns-then-x-ne4
-unfolding enter_index
-returns-then-x-ne4 c = λ w s. record { same = rw (ne_eqb _ _ c.if-x-ne4.true) }
 
 pub returns-then-blocked : goal.returns-then-blocked
 unfolding enter_index

@@ -1,11 +1,7 @@
 -- `read_base` follows its rule: by the tests of the rule, which have the values that the branches show.
-use borrow.Author.Tests.{lt-ltb, le-ltb, eq-eqb, ne_eqb}
+use borrow.Author.Tests.{lt-ltb, le-ltb, eq-eqb}
 use Rattle.model.specs.Rules.{read_base}
 use Rattle.rules.proofs.actions.read_base.Goals as goal
-
-pub returns-then-x-ne2 : goal.returns-then-x-ne2
-unfolding read_base
-returns-then-x-ne2 c = λ w s. record { same = rw (ne_eqb _ _ c.if-x-ne2.true) }
 
 pub returns-then-locked : goal.returns-then-locked
 unfolding read_base

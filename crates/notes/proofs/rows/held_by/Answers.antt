@@ -1,9 +1,0 @@
--- `held_by` meets its contract, on either side of its test.
-use borrow.Author.Tests.{eq-eqb, ne_eqb}
-use Rattle.notes.proofs.rows.held_by.Goals as goal
-
-pub returns-then-x-eq0 : goal.returns-then-x-eq0
-returns-then-x-eq0 c = rw (eq-eqb _ _ c.if-x-eq0.true)
-
-pub returns-else-x-eq0 : goal.returns-else-x-eq0
-returns-else-x-eq0 c = rw (ne_eqb _ _ c.if-x-eq0.false)
