@@ -62,12 +62,12 @@ fn all_at_most(n: u8, numbers: &[u8]) -> bool
 }
 
 // Are the horizon and the numbers that all writers share in range? If so, the writers decide, and what is noted.
-fn shared_in_range<'a>(
+fn shared_in_range(
     horizon: u8,
     last: u8,
-    locks: &'a [u8; GROUPS],
-    index: &'a [u8; KEYS],
-    timeline: &'a [u8; TIMESTAMPS],
+    locks: &[u8; GROUPS],
+    index: &[u8; KEYS],
+    timeline: &[u8; TIMESTAMPS],
 ) -> bool
     ensures { result ≡ shared_in_range horizon last locks.now index.now timeline.now }
 {
@@ -80,11 +80,11 @@ fn shared_in_range<'a>(
 }
 
 // Is what is noted for the candidates of a commit in range?
-fn notes_in_range<'a>(
+fn notes_in_range(
     last: u8,
-    places: &'a [u8; TIMESTAMPS],
-    counts: &'a [u8; WRITERS],
-    noted: &'a [u8; NOTED],
+    places: &[u8; TIMESTAMPS],
+    counts: &[u8; WRITERS],
+    noted: &[u8; NOTED],
 ) -> bool
     ensures { result ≡ notes_in_range last (notes places.now counts.now noted.now) }
 {
@@ -101,7 +101,7 @@ fn writers_in_range(last: u8, writers: &[Writer; WRITERS]) -> bool
 }
 
 // Is every stored number of a table in its range? The table comes in its parts, so that no caller copies it whole for the test, and the writers are
-// tested here, so that they are not copied on.
+// lent on, so that they are not copied again.
 #[tactic(auto, using(crate::proofs::Parts::parts_lem))]
 pub fn parts_in_range<'a>(
     horizon: u8,
