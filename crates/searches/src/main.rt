@@ -4,7 +4,6 @@
 use metadata::{Search, instant_of, newest_above, newest_of};
 use model::instants::{COMPLETED, INFLIGHT, NONE, REQUESTED};
 use model::limits::TIMESTAMPS;
-use report::{number, text};
 use std::io;
 use std::io::{BufWriter, Write};
 
@@ -14,29 +13,17 @@ const LAST: u8 = 128;
 // What a search gave: the hit, or that there is none, and how many timestamps it looked at.
 fn print(out: &mut impl Write, found: Search) -> io::Result<()> {
     match found.hit {
-        Some(ts) => {
-            text(out, b" hit")?;
-            number(out, ts as u64)?;
-        }
-        None => text(out, b" no hit")?,
+        Some(ts) => write!(out, " hit {ts}")?,
+        None => write!(out, " no hit")?,
     }
-    text(out, b", looked at")?;
-    number(out, found.looked_at as u64)
+    write!(out, ", looked at {}", found.looked_at)
 }
 
 // The search for a file group from a last timestamp down to a base, and the newest of the group up to the last timestamp.
 fn search(out: &mut impl Write, timeline: &[u8], group: u8, base: u8, last: u8) -> io::Result<()> {
-    text(out, b"group")?;
-    number(out, group as u64)?;
-    text(out, b" from")?;
-    number(out, last as u64)?;
-    text(out, b" down to")?;
-    number(out, base as u64)?;
-    text(out, b":")?;
+    write!(out, "group {group} from {last} down to {base}:")?;
     print(out, newest_above(timeline, group, base, last))?;
-    text(out, b"; newest")?;
-    number(out, newest_of(timeline, group, last) as u64)?;
-    text(out, b"\n")
+    writeln!(out, "; newest {}", newest_of(timeline, group, last))
 }
 
 // Every base and last timestamp up to 9.
@@ -50,11 +37,7 @@ fn search_all(out: &mut impl Write, timeline: &[u8], group: u8) -> io::Result<()
 }
 
 // Searches, each by its file group, base and last timestamp.
-fn search_each(
-    out: &mut impl Write,
-    timeline: &[u8],
-    searches: &[(u8, u8, u8)],
-) -> io::Result<()> {
+fn search_each(out: &mut impl Write, timeline: &[u8], searches: &[(u8, u8, u8)]) -> io::Result<()> {
     for (group, base, last) in searches {
         search(out, timeline, *group, *base, *last)?;
     }
@@ -63,11 +46,7 @@ fn search_each(
 
 // The number of an instant.
 fn instant(out: &mut impl Write, timeline: &[u8], at: u64) -> io::Result<()> {
-    text(out, b"instant")?;
-    number(out, at)?;
-    text(out, b":")?;
-    number(out, instant_of(timeline, at) as u64)?;
-    text(out, b"\n")
+    writeln!(out, "instant {at}: {}", instant_of(timeline, at))
 }
 
 // Of eight instants, 1 and 7 are completed in file group 0, 2, 4 and 6 in group 1, and 5 in group 3. Among the searches are two hits above the
@@ -97,7 +76,12 @@ fn eight_instants(out: &mut impl Write) -> io::Result<()> {
     search_each(
         out,
         &timeline,
-        &[(1, LAST, LAST + 1), (1, 254, 255), (1, 255, 255), (1, 255, 0)],
+        &[
+            (1, LAST, LAST + 1),
+            (1, 254, 255),
+            (1, 255, 255),
+            (1, 255, 0),
+        ],
     )
 }
 
@@ -127,7 +111,13 @@ fn no_such_groups(out: &mut impl Write) -> io::Result<()> {
     search_each(
         out,
         &timeline,
-        &[(244, 0, 3), (245, 0, 3), (245, 1, 3), (246, 0, 3), (255, 0, 3)],
+        &[
+            (244, 0, 3),
+            (245, 0, 3),
+            (245, 1, 3),
+            (246, 0, 3),
+            (255, 0, 3),
+        ],
     )
 }
 
