@@ -83,13 +83,10 @@ impl<'a> Iterator for Items<'a> {
     fn next(&mut self) -> Option<Item<'a>> {
         let (&kind, rest) = self.0.split_first()?;
         let kind = Kind::try_from(kind).ok();
-        let Decoded::Number {
+        let Decoded {
             value: number,
             next,
-        } = leb128::decode(rest, 0)
-        else {
-            return None;
-        };
+        } = leb128::decode(rest, 0).ok()?;
         let rest = rest.get(next..)?;
         let size = if kind.is_some_and(Kind::has_bytes) {
             number as usize

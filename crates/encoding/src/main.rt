@@ -2,11 +2,11 @@
 #![tactic(auto)]
 
 ghost use Rattle.std.specs.Prelude.{◌≡◌};
-ghost use Rattle.logwriter.specs.Writing.{log_written};
+ghost use Rattle.logwriter.specs.Writing.{answer_of, count_of, log_written};
 ghost use Rattle.encoding.specs.Steps.{put_and_look_up};
 
 use common::Word;
-use logwriter::Written;
+use logwriter::Refusal;
 use model::{Action, Operation, Step};
 use std::io;
 use std::io::{BufWriter, Write};
@@ -34,8 +34,8 @@ fn put_and_look_up() -> [Step; 2]
 }
 
 // The log of two steps, written into a buffer from a place on.
-fn write_two(buffer: &mut [u8], at: usize) -> Written
-    ensures { record { answer = result.answer; count = result.count; buffer = buffer.new } ≡ log_written put_and_look_up buffer.old at }
+fn write_two(buffer: &mut [u8], at: usize) -> Result<usize, Refusal>
+    ensures { record { answer = answer_of result; count = count_of result; buffer = buffer.new } ≡ log_written put_and_look_up buffer.old at }
 {
     let steps = put_and_look_up();
     logwriter::write_log(&steps, buffer, at)
@@ -43,8 +43,11 @@ fn write_two(buffer: &mut [u8], at: usize) -> Written
 
 fn write_printed(out: &mut impl Write, label: &[u8], at: usize) -> io::Result<()> {
     let mut buffer = [255u8; 12];
-    let written = write_two(&mut buffer, at);
-    report::written(out, label, written.answer, written.count, &buffer)
+    let (answer, count) = match write_two(&mut buffer, at) {
+        Ok(count) => (0, count),
+        Err(refusal) => (u8::from(refusal), 0),
+    };
+    report::written(out, label, answer, count, &buffer)
 }
 
 // Eight bytes into a buffer of twelve: past its end, at its end, one byte short of a fit, an exact fit, and with a byte to spare.
@@ -57,14 +60,14 @@ fn log_writer(out: &mut impl Write) -> io::Result<()> {
     write_printed(out, b"place 3 of 12", 3)
 }
 
-// A number into a buffer; the number writer has no answer number but its size, 0 where the code does not fit.
+// A number into a buffer; the number writer has no answer number but its size, here 0 where the code does not fit.
 fn encode_printed(
     out: &mut impl Write,
     label: &[u8],
     number: Word,
     buffer: &mut [u8],
 ) -> io::Result<()> {
-    let size = leb128::encode(number, buffer);
+    let size = leb128::encode(number, buffer).unwrap_or(0);
     report::written(out, label, 0, size, buffer)
 }
 

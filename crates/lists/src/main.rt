@@ -22,7 +22,7 @@ fn run_printed(
     let after = ran.table;
     report::answers(out, label, answers, ran.count)?;
     report::answers(out, b"all places:", answers, answers.len())?;
-    report::stop(out, ran.stop, ran.offset)?;
+    report::stop(out, u8::from(ran.stop), ran.offset)?;
     scripts::scan(out, after, present, values, after.last as u64)?;
     Ok(after)
 }

@@ -3,12 +3,12 @@ ghost use Rattle.std.specs.Prelude.{◌≡◌, map};
 ghost use Rattle.std.specs.List.{range_with_len};
 ghost use Rattle.steplog.specs.Reader.{reader_place, reader_finds};
 
-use steplog::Record;
+use steplog::{Reader, Record, Stop};
 
-// What five calls of `next` gave, and the reader's place after them.
+// What five calls of `next_record` gave, and the reader's place after them.
 #[derive(Clone, Copy)]
 pub struct Five {
-    pub records: [Record; 5],
+    pub records: [Result<Record, Stop>; 5],
     pub place: usize,
 }
 
@@ -19,12 +19,12 @@ pub fn read_five(log: &[u8]) -> Five
       place = reader_place log.now 0 5;
     } }
 {
-    let mut reader = steplog::open(log, 0);
-    let first = steplog::next(&mut reader);
-    let second = steplog::next(&mut reader);
-    let third = steplog::next(&mut reader);
-    let fourth = steplog::next(&mut reader);
-    let fifth = steplog::next(&mut reader);
+    let mut reader = Reader::open(log, 0);
+    let first = reader.next_record();
+    let second = reader.next_record();
+    let third = reader.next_record();
+    let fourth = reader.next_record();
+    let fifth = reader.next_record();
     Five {
         records: [first, second, third, fourth, fifth],
         place: reader.at,

@@ -2,7 +2,7 @@
 use model::{Action, Operation};
 use std::io;
 use std::io::Write;
-use steplog::Record;
+use steplog::{Record, Stop};
 
 // A title on a line of its own.
 pub fn title(out: &mut impl Write, title: &str) -> io::Result<()> {
@@ -32,14 +32,14 @@ fn action(out: &mut impl Write, done: Action) -> io::Result<()> {
 }
 
 // A step and the place behind its record, or the stop.
-pub fn record(out: &mut impl Write, found: Record) -> io::Result<()> {
+pub fn record(out: &mut impl Write, found: Result<Record, Stop>) -> io::Result<()> {
     match found {
-        Record::Taken { step, next } => {
+        Ok(Record { step, next }) => {
             write!(out, "writer {}", step.writer)?;
             action(out, step.action)?;
             writeln!(out, ", next at {next}")
         }
-        Record::Stop(stop) => writeln!(out, "stop {stop}"),
+        Err(stop) => writeln!(out, "stop {}", u8::from(stop)),
     }
 }
 

@@ -4,18 +4,36 @@
 mod list;
 mod log;
 
+ghost use Rattle.std.specs.Prelude.{◌≡◌};
+ghost use Rattle.run.specs.Calls.{stop_of_run};
+
 pub use list::run_list;
 pub use log::run_log;
 use model::Table;
 
-// The stop where there is no place for the next answer.
-pub const NO_PLACE: u8 = 24;
+// Why a run stopped: there is no place for the next answer, or its input gave no record.
+#[derive(Clone, Copy, PartialEq, Eq, Debug)]
+pub enum Stop {
+    NoPlace,
+    Input(steplog::Stop),
+}
 
-// What a run gave: its stop (NO_PLACE, or that of the record that it came to), the number of records taken, the offset of the first record
-// not taken, and the table.
+// The number of a stop.
+impl From<Stop> for u8 {
+    ghost from_gives = { λ stop number. number ≡ stop_of_run stop };
+
+    fn from(stop: Stop) -> u8 {
+        match stop {
+            Stop::NoPlace => 24,
+            Stop::Input(stop) => u8::from(stop),
+        }
+    }
+}
+
+// What a run gave: its stop, the number of records taken, the offset of the first record not taken, and the table.
 #[derive(Clone, Copy)]
 pub struct Ran {
-    pub stop: u8,
+    pub stop: Stop,
     pub count: usize,
     pub offset: usize,
     pub table: Table,

@@ -50,7 +50,7 @@ pub fn run_printed(
 {
     let ran = run_log(t, present, values, log, answers, by_steps);
     report::answers(out, label, answers, ran.count)?;
-    report::stop(out, ran.stop, ran.offset)?;
+    report::stop(out, u8::from(ran.stop), ran.offset)?;
     Ok(ran)
 }
 

@@ -71,8 +71,7 @@ fn passes(out: &mut impl Write, times: Word, log: &[u8]) -> io::Result<()> {
 
 // The number of passes, and the log behind it.
 fn run_input(out: &mut impl Write, input: &[u8]) -> io::Result<()> {
-    let first = leb128::decode(input, 0);
-    let Decoded::Number { value, next } = first else {
+    let Ok(Decoded { value, next }) = leb128::decode(input, 0) else {
         return Ok(());
     };
     let Some(log) = input.get(next..) else {

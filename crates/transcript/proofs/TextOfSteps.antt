@@ -7,7 +7,7 @@
 use Prim.Native.Nat.{ℕ, ◌≤◌, ◌<◌}
 use native.Mathlib.Decide.{ℕ_discrete, dec_lt}
 use native.Mathlib.Omega.{arith}
-use mathlib.Core.List.{List}
+use mathlib.Core.List.{List, [], ◌∷◌}
 use mathlib.Core.Logic.{◌≢◌, by_cases}
 use mathlib.Core.Path.{◌≡◌, sym, ap, ◌∙◌}
 use lib.ListN.{length, get_or, take, drop, replicate, length-replicate, length-append}
@@ -19,8 +19,7 @@ use Rattle.model.specs.History.{listing}
 use Rattle.model.specs.Isolation.{Event, events_of, after}
 use Rattle.model.specs.declared.Mode.{Mode}
 use Rattle.model.proofs.Isolation.{reached}
-use Rattle.steplog.specs.Records.{used_up, encoded_steps, LogRead, log_read}
-use Rattle.steplog.specs.declared.reading.Record.TheVariants.{Stop}
+use Rattle.steplog.specs.Records.{used_up, record_numbers, encoded_steps, LogRead, log_read}
 use Rattle.steplog.proofs.Sizes.{steps_most}
 use Rattle.steplog.proofs.EndOfLog.{at_end}
 use Rattle.steplog.proofs.RoundTrip.{log_stops}
@@ -71,8 +70,9 @@ module _ (mode : Mode) (log : List ℕ) (are-bytes : (i : ℕ) → get_or log i 
 
   -- a record that stops the reading stands before the log's end
   stops_inside : reads.stop ≢ used_up → reads.offset < length log
+  unfolding record_numbers
   stops_inside ne = by_cases (dec_lt reads.offset (length log)) (λ h. h)
-      (λ h. let e : Stop reads.stop ≡ Stop used_up = sym (log_stops log are-bytes).stops ∙ at_end log reads.offset (omega arith) in
+      (λ h. let e : reads.stop ∷ [] ≡ used_up ∷ [] = sym (log_stops log are-bytes).stops ∙ ap record_numbers (at_end log reads.offset (omega arith)) in
       absurd (ne (cc)))
 
   places_enough : places_for reads ≤ max_answers

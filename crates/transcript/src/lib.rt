@@ -61,6 +61,6 @@ pub fn transcribe(mode: Mode, log: &[u8], buffer: &mut [u8]) -> Option<usize>
     let count = scanned.unwrap_or(0);
     let answered = &answers[..ran.count];
     let listed = &rows[..3 * count];
-    text.put_run(answered, ran.stop, ran.offset, listed);
+    text.put_run(answered, u8::from(ran.stop), ran.offset, listed);
     Some(text.size())
 }

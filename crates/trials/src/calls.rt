@@ -6,7 +6,7 @@ use model::{Step, Table, Value};
 use report::SIGNS;
 use std::io;
 use std::io::Write;
-use steplog::Record;
+use steplog::Reader;
 
 // Places for the answers of a run.
 const PLACES: usize = 2 * TIMESTAMPS;
@@ -41,13 +41,13 @@ fn steps_tried(
     values: &[Value; ROWS],
     log: &[u8],
 ) -> io::Result<()> {
-    let mut reader = steplog::open(log, 0);
+    let mut reader = Reader::open(log, 0);
     // No more records than bytes.
     for _ in log {
-        let Record::Taken { step, .. } = steplog::next(&mut reader) else {
+        let Ok(found) = reader.next_record() else {
             return Ok(());
         };
-        step_tried(out, t, present, values, step)?;
+        step_tried(out, t, present, values, found.step)?;
     }
     Ok(())
 }
@@ -64,7 +64,7 @@ fn run_tried(
     let mut held = *values;
     let mut places = [0u8; PLACES];
     let ran = run::run_log(t, &mut shown, &mut held, log, &mut places);
-    report::ran(out, &places, ran.count, ran.stop, ran.offset)?;
+    report::ran(out, &places, ran.count, u8::from(ran.stop), ran.offset)?;
     changes(out, &t, present, values, &ran.table, &shown, &held)
 }
 

@@ -5,7 +5,6 @@ ghost use Rattle.std.specs.Iterator.{at_most};
 
 use crate::numbers::{NUMBERS, with_number};
 use common::Word;
-use leb128::Decoded;
 use model::limits::ROWS;
 use model::{Table, Value};
 
@@ -24,17 +23,9 @@ impl<'a> Pairs<'a> {
 
     // The pair at the place, and the place behind it, if it is not cut short.
     fn whole(&self) -> Option<(Word, Word, usize)> {
-        let Decoded::Number { value: first, next } = leb128::decode(self.input, self.at) else {
-            return None;
-        };
-        let Decoded::Number {
-            value: second,
-            next,
-        } = leb128::decode(self.input, next)
-        else {
-            return None;
-        };
-        Some((first, second, next))
+        let first = leb128::decode(self.input, self.at).ok()?;
+        let second = leb128::decode(self.input, first.next).ok()?;
+        Some((first.value, second.value, second.next))
     }
 }
 

@@ -3,7 +3,6 @@
 #![tactic(auto)]
 
 use common::Word;
-use leb128::Decoded;
 use std::io;
 use std::io::{BufWriter, Write};
 
@@ -13,7 +12,7 @@ const MAX_INPUT: usize = 4096;
 // A number, and the bytes that leb128 makes of it.
 fn print_number(out: &mut impl Write, number: Word) -> io::Result<()> {
     let mut buffer = [0u8; 16];
-    let size = leb128::encode(number, &mut buffer);
+    let size = leb128::encode(number, &mut buffer).unwrap();
     write!(out, "{number} ")?;
     for byte in &buffer[..size] {
         write!(out, "{byte:02x}")?;
@@ -26,11 +25,11 @@ fn print_numbers(out: &mut impl Write, bytes: &[u8]) -> io::Result<()> {
     let mut at = 0;
     while at < bytes.len() {
         match leb128::decode(bytes, at) {
-            Decoded::Number { value, next } => {
-                print_number(out, value)?;
-                at = next;
+            Ok(found) => {
+                print_number(out, found.value)?;
+                at = found.next;
             }
-            Decoded::Stop(stop) => return writeln!(out, "stop {stop} at {at}"),
+            Err(malformed) => return writeln!(out, "stop {} at {at}", u8::from(malformed)),
         }
     }
     writeln!(out, "stop 0 at {at}")

@@ -39,8 +39,8 @@ pub returns-clause-prints : goal.returns-clause-prints
 returns-clause-prints c =
     run_printed _ _ c.fresh-fresh.ensures c.run_log-ran.ensures c.scan-scanned.ensures (search rules) _ c.if-buffer-lt-MAX_TEXT.false
     c.if-log-gt-MAX_LOG.false
-    (put_first c.new-text.ensures.same_bytes c.new-text.ensures.at_the_start (rw c.unwrap_or-count.ensures at c.put_run.ensures) c.size-2.ensures
-    (search rules))
+    (put_first c.new-text.ensures.same_bytes c.new-text.ensures.at_the_start (rw (c.unwrap_or-count.ensures, c.from.ensures) at c.put_run.ensures)
+    c.size-2.ensures (search rules))
 
 pub returns-clause-within : goal.returns-clause-within
 returns-clause-within c = printed_within _ _ _ _ _ (returns-clause-prints c)
