@@ -15,10 +15,7 @@ use modes::{guard, lock_phase};
 pub fn names_other(entry: u8, n: u8) -> bool
     ensures { result ≡ rules.names_other entry n }
 {
-    if entry == 0 {
-        return false;
-    }
-    entry as u16 != n as u16 + 1
+    entry.checked_sub(1).is_some_and(|named| named != n)
 }
 
 // Does the step that fits a writer's phase take the lock that guards its file group?
@@ -35,26 +32,20 @@ pub fn blocked(mode: Mode, x: Writer, w: u8, locks: &[u8]) -> bool
     if !takes_lock(mode, x) {
         return false;
     }
-    let place = guard(mode, x.group) as usize;
-    if place >= locks.len() {
+    let Some(held) = locks.get(guard(mode, x.group) as usize) else {
         return false;
-    }
-    let held = locks[place];
-    names_other(held, w)
+    };
+    names_other(*held, w)
 }
 
 // The lock that the step takes, if it takes one, is set to `lock`, w + 1 for writer w.
 pub fn take_lock(mode: Mode, x: Writer, lock: u8, locks: &mut [u8])
     ensures { locks.new ≡ rules.locking mode x lock locks.old }
 {
-    if !takes_lock(mode, x) {
-        return;
-    }
     let place = guard(mode, x.group) as usize;
-    if place >= locks.len() {
-        return;
+    if takes_lock(mode, x) && place < locks.len() {
+        locks[place] = lock;
     }
-    locks[place] = lock;
 }
 
 // A lock after writer w has let go of it.
@@ -68,10 +59,7 @@ fn released(lock: u8, w: u8) -> u8
 pub fn free_locks(w: u8, locks: &mut [u8])
     ensures { locks.new ≡ rules.freed w locks.old }
 {
-    let mut i: usize = 0;
-    while i < locks.len() {
-        let held = locks[i];
-        locks[i] = released(held, w);
-        i += 1;
+    for lock in locks.iter_mut() {
+        *lock = released(*lock, w);
     }
 }
