@@ -1,4 +1,4 @@
--- The loop that lists the completed timestamps among the marked ones: `ListedUpto` is its invariant, with one law for
+-- The loop that lists the completed timestamps of which a test holds: `ListedUpto` is its invariant, with one law for
 -- each way round it.
 --     list_none, list_next, list_skip, list_end    before the first timestamp, past one that is listed, past another,
 --                                                  and past all
@@ -14,13 +14,12 @@ use lib.Seq.{drop_at}
 use Rattle.common.specs.Counting.{list_below, up_to}
 use Rattle.common.specs.Pasting.{pasted}
 use Rattle.common.proofs.Cases.{cond_each}
-use Rattle.common.proofs.ListBelow.{same_below, length_below}
+use Rattle.common.proofs.ListBelow.{length_below}
 use Rattle.common.proofs.Pieces.{none_pasted, element_pasted}
 use Rattle.common.proofs.PastedParts.{Putting, starts, same_length, goes_on, ends}
 use Rattle.model.specs.Limits.{timestamps}
 use Rattle.model.specs.State.{has_completed}
 use Rattle.model.specs.Candidates.{completed_that, filled}
-use Rattle.candidates.specs.Inner.{Marks}
 
 -- ---- the numbers 1, 2, .. of which a test holds, listed from the beginning of n zeros on
 -- the number after i, if a test holds of i
@@ -66,10 +65,10 @@ module _ {q : ℕ → Bool} {n : ℕ} {list : List ℕ} {count i : ℕ} (v : Lis
       let (counted, put) = simp zero-add at (ends v.put h) in
       (counted, put ∙ ap (◌++◌ (all q n)) (drop_replicate {A = ℕ} n (length (all q n)) 0 (all_fit q n)))
 
--- ---- the completed ones among the marked timestamps
+-- ---- the completed timestamps of which a test holds
 -- is the timestamp after place i listed
-abbrev pub is_listed : List ℕ → List Bool → ℕ → Bool
-is_listed timeline marked i = has_completed (get_or timeline i 0) && get_or marked i false
+abbrev pub is_listed : List ℕ → (ℕ → Bool) → ℕ → Bool
+is_listed timeline p i = has_completed (get_or timeline i 0) && p (suc i)
 
 -- a test that does not hold of 0
 up_to_later : (p : ℕ → Bool) → p 0 ≡ false → (n : ℕ) → up_to n p ≡ list_below n (next_if (λ i. p (suc i)))
@@ -77,10 +76,17 @@ unfolding up_to list_below
 up_to_later p e zero = rw e
 up_to_later p e (suc n) = rw (up_to_later p e n)
 
-module _ (timeline : List ℕ) (marked : List Bool) (p : ℕ → Bool) (marks : Marks marked p) where
-  completed_listed : completed_that timeline p ≡ all (is_listed timeline marked) timestamps
-  completed_listed = up_to_later _ refl timestamps ∙ same_below timestamps _ _ (λ i l. rw (marks i l))
+module _ (timeline : List ℕ) (p : ℕ → Bool) where
+  completed_listed : completed_that timeline p ≡ all (is_listed timeline p) timestamps
+  completed_listed = up_to_later _ refl timestamps
 
-  pub list_end : {list : List ℕ} {count i : ℕ} → ListedUpto (is_listed timeline marked) timestamps list count i → timestamps ≤ i
+  -- where its instant is completed the test decides, and else it is not listed
+  pub listed_by : (i : ℕ) {b : Bool} → has_completed (get_or timeline i 0) ≡ true → b ≡ p (i + 1) → is_listed timeline p i ≡ b
+  listed_by i h e = rw h (ap p (sym (add-one i)) ∙ sym e)
+
+  pub not_completed : (i : ℕ) → has_completed (get_or timeline i 0) ≡ false → is_listed timeline p i ≡ false
+  not_completed i h = rw h
+
+  pub list_end : {list : List ℕ} {count i : ℕ} → ListedUpto (is_listed timeline p) timestamps list count i → timestamps ≤ i
       → record { count = count; timestamps = list } ≡ filled (completed_that timeline p)
   list_end v h = let (counted, put) = all_listed v h in rw (completed_listed, counted, put)

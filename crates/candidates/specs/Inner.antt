@@ -1,7 +1,7 @@
--- What the inner functions of the candidates' call promise each other: which timestamps a list of marks has.
-use Rattle.std.specs.Prelude.{ℕ, suc, ◌<◌, Bool, false, List, ◌≡◌, get_or}
+-- What the inner functions of the candidates' call promise each other: what a test of timestamps tells.
+use Rattle.std.specs.Prelude.{ℕ, ◌<◌, ◌≤◌, Bool, ◌≡◌}
 use Rattle.model.specs.Limits.{timestamps}
 
--- the marked timestamps are those of which a test holds
-abbrev pub Marks : List Bool → (ℕ → Bool) → Type 0
-Marks marked p = (i : ℕ) → i < timestamps → get_or marked i false ≡ p (suc i)
+-- the answers of a test at the timestamps are those of p
+abbrev pub Tells : (ℕ → Bool → Type 0) → (ℕ → Bool) → Type 0
+Tells answers p = (n : ℕ) (b : Bool) → 0 < n → n ≤ timestamps → answers n b → b ≡ p n

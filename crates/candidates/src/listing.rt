@@ -1,38 +1,32 @@
-// The list of the completed instants among those that are marked.
-ghost use Rattle.std.specs.Prelude.{◌≡◌, Bool, ◌&&◌, ℕ};
+// The list of the completed instants of which a test holds.
+ghost use Rattle.std.specs.Prelude.{◌≡◌, ◌<◌, ◌≤◌, Bool, ℕ};
+ghost use Rattle.model.specs.Limits.{timestamps};
 ghost use Rattle.model.specs.State.{has_completed};
 ghost use Rattle.model.specs.Candidates as specs;
-ghost use Rattle.candidates.specs.Inner.{Marks};
+ghost use Rattle.candidates.specs.Inner.{Tells};
 
 use model::InstantList;
 use model::instants::COMPLETED;
 use model::limits::TIMESTAMPS;
 
-// Is an instant listed: completed, and marked?
-fn is_listed(instant: u8, marked: bool) -> bool
-    ensures { result ≡ (has_completed instant && marked) }
+// Is an instant completed, in any file group?
+fn has_completed(instant: u8) -> bool
+    ensures { result ≡ has_completed instant }
 {
-    if instant < COMPLETED {
-        return false;
-    }
-    marked
+    instant >= COMPLETED
 }
 
-// The completed timestamps among the marked ones, rising.
-pub fn completed_among<'a>(
-    timeline: &'a [u8; TIMESTAMPS],
-    marked: &'a [bool; TIMESTAMPS],
-) -> InstantList
-    ensures { (p : ℕ → Bool) → Marks marked.now p → result ≡ specs.filled (specs.completed_that timeline.now p) }
+// The completed timestamps of which a test holds, rising.
+pub fn completed_that<F: Fn(u8) -> bool>(timeline: &[u8; TIMESTAMPS], test: F) -> InstantList
+    requires { (n : ℕ) → 0 < n → n ≤ timestamps → F.pre test n }
+    ensures { (p : ℕ → Bool) → Tells (F.post test) p → result ≡ specs.filled (specs.completed_that timeline.now p) }
 {
     let mut timestamps = [0u8; TIMESTAMPS];
     let mut count: u8 = 0;
-    let mut i: usize = 0;
-    while i < TIMESTAMPS {
-        let slot = i;
-        i += 1;
-        if is_listed(timeline[slot], marked[slot]) {
-            timestamps[count as usize] = i as u8;
+    for (i, instant) in timeline.iter().enumerate() {
+        let ts = i as u8 + 1;
+        if has_completed(*instant) && test(ts) {
+            timestamps[count as usize] = ts;
             count += 1;
         }
     }

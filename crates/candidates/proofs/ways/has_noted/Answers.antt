@@ -1,25 +1,35 @@
--- `has_noted` meets its contract. The loop's invariant: no place of the row that is passed has the timestamp. The measure is the number of places left.
+-- `has_noted` meets its contract: the row of a writer is a part of the list.
+use Prim.Native.Nat.{ℕ, ◌+◌, ◌-◌, ◌*◌, ◌<◌, ◌≤◌}
 use native.Mathlib.Omega.{arith}
-use mathlib.Core.Bool.{not}
-use mathlib.Core.Path.{◌≡◌, sym, ap}
-use borrow.Author.Rules.{rules}
-use borrow.Author.Tests.{eq-eqb, ne_eqb}
-use borrow.Author.Count.{below_none, below_more}
+use mathlib.Core.Bool.{Bool, true, false, not}
+use mathlib.Core.List.{List}
+use mathlib.Core.Path.{◌≡◌, sym, ap, ◌∙◌}
+use lib.Dec.{eqb}
+use lib.ListN.{length, get_or, take, drop}
+use Rattle.std.proofs.lemmas.List.{get_or-take, get_or-drop}
+use Rattle.std.proofs.lemmas.Grind.{common_steps}
+use Rattle.std.specs.List.{IsAnyAnswer}
+use Rattle.common.specs.Counting.{any_below}
 use Rattle.common.proofs.EachBelow.{below_all, below_stop}
 use Rattle.model.specs.Limits.{writers}
 use Rattle.model.specs.Candidates.{has_noted}
 use Rattle.candidates.proofs.ways.has_noted.Goals as goal
 
-pub loop-u-init : goal.loop-u-init
-loop-u-init c = (search rules, below_none _)
+any_noted : (row : List ℕ) (f : ℕ → ℕ) (s n : ℕ) → length row ≡ n → ((u : ℕ) → u < n → get_or row u 0 ≡ f u)
+    → (r : Bool) → IsAnyAnswer (λ y b. eqb y s ≡ b) row r → r ≡ any_below n (λ u. eqb (f u) s)
+any_noted row f s n size same true (k, l, here) =
+    let within : k < n = omega arith in
+    let found : eqb (get_or row k 0) s ≡ true = here 0 in
+    sym (ap not (below_stop (λ u. not (eqb (f u) s)) n k within (ap not (rw (same k within) at found))))
+any_noted row f s n size same false none =
+    sym (ap not (below_all (λ u. not (eqb (f u) s)) n (λ u l.
+    let other : eqb (get_or row u 0) s ≡ false = none u 0 (omega arith) (omega arith) in
+    ap not (rw (same u l) at other))))
 
-pub returns-then-noted-w : goal.returns-then-noted-w
-unfolding has_noted
-returns-then-noted-w c = sym (ap not (below_stop _ writers c.loop-u.u (omega arith) (ap not (eq-eqb _ _ c.if-noted-w.true))))
-
-pub loop-u-preserved : goal.loop-u-preserved
-loop-u-preserved c = (omega arith, below_more _ _ c.loop-u.invariant.1 (ap not (ne_eqb _ _ c.if-noted-w.false)))
+row_of : (noted : List ℕ) (a k u : ℕ) → u < writers → writers ≤ k → get_or (take writers (take k (drop a noted))) u 0 ≡ get_or noted (a + u) 0
+row_of noted a k u l m = get_or-take writers (take k (drop a noted)) u 0 l ∙ (get_or-take k (drop a noted) u 0 (omega arith) ∙ get_or-drop a noted u 0)
 
 pub returns : goal.returns
 unfolding has_noted
-returns c = let z : c.loop-u.u ≡ writers = omega arith in sym (ap not (below_all _ writers (rw z at c.loop-u.invariant.1)))
+returns c =
+    any_noted _ _ c.args.ts writers (grind (arith, common_steps)) (λ u l. row_of c.args.noted.now (c.args.w * writers) (256 - c.args.w * writers) u l (omega arith)) _ c.contains.ensures.cases
