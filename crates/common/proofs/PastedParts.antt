@@ -2,9 +2,8 @@
 --     starts_where          the same where no part may have to be put
 --     same_length           the text keeps its length
 --     part_fits             the next part has room
---     part_there, fills     the same of a loop that goes up to the place behind the last part
 --     ends                  what is left behind, where the parts are counted
-use mathlib.Core.Path.{◌≡◌, sym, ap, ◌∙◌}
+use mathlib.Core.Path.{◌≡◌, ap, ◌∙◌}
 use mathlib.Core.List.{List, [], ◌∷◌}
 use mathlib.Core.Logic.{by_cases}
 use Prim.Native.Nat.{ℕ, suc, ◌+◌, ◌≤◌, ◌<◌}
@@ -14,7 +13,7 @@ use native.Mathlib.Omega.{arith}
 use lib.ListN.{length, length-append}
 use Rattle.common.specs.Counting.{list_below}
 use Rattle.common.specs.Pasting.{PastedTo}
-use Rattle.common.proofs.ListBelow.{list_rest, list_whole}
+use Rattle.common.proofs.ListBelow.{list_rest}
 use Rattle.common.proofs.Pasting.{pasted_none, pasted_length}
 use Rattle.common.proofs.Pieces.{Fits, first_fits, rest_fits, none_pasted, both_fit, both_pasted}
 
@@ -61,11 +60,3 @@ module _ {A : Type 0} {part : ℕ → List A} {count : ℕ} {text₀ : List A} {
 
   pub ends : count ≤ i → PastedTo text₀ at₀ (list_below count part) at text
   ends h = let all : count ≡ i = omega (arith, now.upto) in rw all now.put
-
-  pub part_there : at < at₀ + length (list_below count part) → i < count
-  part_there h = by_cases (dec_lt i count) (λ l. l) (λ l. absurd (let z : ⊥ = omega (arith, h, (ends (omega arith)).0) in z))
-
-  pub fills : at₀ + length (list_below count part) ≤ at → PastedTo text₀ at₀ (list_below count part) at text
-  fills h =
-      let shorter = fewer_parts part count i now.upto in
-      rw (sym (list_whole i count part now.upto (omega (arith, h, now.put.0, shorter)))) now.put
