@@ -2,7 +2,7 @@
 use crate::set_rows;
 use model::limits::{GROUPS, KEYS, ROWS};
 use model::{Table, Value};
-use report::{number, text};
+use report::text;
 use scripts::{clean, play};
 use std::io;
 use std::io::Write;
@@ -10,14 +10,11 @@ use std::io::Write;
 // A row that is present or has a value: its file group, timestamp, key and value.
 fn stored_row(out: &mut impl Write, row: usize, shown: bool, value: Value) -> io::Result<()> {
     if shown || value != 0 {
-        number(out, (row / KEYS % GROUPS) as u64)?;
-        number(out, (row / (KEYS * GROUPS) + 1) as u64)?;
-        number(out, (row % KEYS) as u64)?;
-        number(out, value)?;
-        if !shown {
-            text(out, b" absent")?;
-        }
-        text(out, b",")?;
+        let group = row / KEYS % GROUPS;
+        let ts = row / (KEYS * GROUPS) + 1;
+        let key = row % KEYS;
+        let absent = if shown { "" } else { " absent" };
+        write!(out, " {group} {ts} {key} {value}{absent},")?;
     }
     Ok(())
 }
