@@ -28,7 +28,8 @@ pub fn back_in_range(out: &mut impl Write) -> io::Result<()> {
     )?;
     report::answers(out, b"all places:", &places, 4)?;
     t = ran.table;
-    report::answers(out, b"last timestamp:", &[t.last], 1)?;
+    let last = t.last;
+    writeln!(out, "last timestamp: {last}")?;
     t.last = 0;
     report::title(out, b"Back in range")?;
     play(out, t, &present, &values, script, 1, 1)

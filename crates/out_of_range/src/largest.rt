@@ -40,36 +40,13 @@ pub fn largest_writer() -> Writer {
     writer(PHASE, KEY, GROUP, LAST, LAST)
 }
 
-// An optimistic table with the largest numbers but for these: the last timestamp, the last key's entry, the last instant, the last writer, and the
-// writers before it.
-pub fn table_of(last: u8, entry: u8, instant: u8, writer: Writer, others: Writer) -> Table {
-    let mut index = [ENTRY; KEYS];
-    let mut timeline = [INSTANT; TIMESTAMPS];
-    let mut writers = [others; WRITERS];
-    index[KEYS - 1] = entry;
-    timeline[TIMESTAMPS - 1] = instant;
-    writers[WRITERS - 1] = writer;
-    Table {
-        mode: Mode::Optimistic,
-        horizon: last,
-        last,
-        locks: [LOCK; GROUPS],
-        writers,
-        index,
-        timeline,
-        places: [LAST; TIMESTAMPS],
-        counts: [LAST; WRITERS],
-        noted: [last; NOTED],
-    }
-}
-
-// A table of a mode with the largest numbers but for its locks.
-pub fn with_locks(mode: Mode, locks: [u8; GROUPS]) -> Table {
+// A table of a mode with the largest numbers.
+pub fn largest(mode: Mode) -> Table {
     Table {
         mode,
         horizon: LAST,
         last: LAST,
-        locks,
+        locks: [LOCK; GROUPS],
         writers: [largest_writer(); WRITERS],
         index: [ENTRY; KEYS],
         timeline: [INSTANT; TIMESTAMPS],
@@ -79,9 +56,29 @@ pub fn with_locks(mode: Mode, locks: [u8; GROUPS]) -> Table {
     }
 }
 
-// A table of a mode with the largest numbers.
-pub fn largest(mode: Mode) -> Table {
-    with_locks(mode, [LOCK; GROUPS])
+// A table with the largest numbers, changed.
+pub fn changed<F: FnOnce(&mut Table)>(table: Table, change: F) -> Table
+    requires { F.IsAlwaysCallable change }
+{
+    let mut t = table;
+    change(&mut t);
+    t
+}
+
+// An optimistic table with the largest numbers but for these: the last timestamp, the last key's entry, the last instant, the last writer, and the
+// writers before it.
+pub fn table_of(last: u8, entry: u8, instant: u8, writer: Writer, others: Writer) -> Table {
+    let mut t = Table {
+        horizon: last,
+        last,
+        writers: [others; WRITERS],
+        noted: [last; NOTED],
+        ..largest(Mode::Optimistic)
+    };
+    t.index[KEYS - 1] = entry;
+    t.timeline[TIMESTAMPS - 1] = instant;
+    t.writers[WRITERS - 1] = writer;
+    t
 }
 
 // A table in which only the last writer has other numbers.

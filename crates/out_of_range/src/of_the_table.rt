@@ -1,14 +1,23 @@
 // Numbers of a table: its last timestamp, its index, its timeline, its horizon and its locks.
+ghost use Rattle.std.specs.Prelude.{◌<◌};
+ghost use Rattle.model.specs.Limits.{groups};
+
 use crate::largest::{
-    ENTRY, GROUP, INSTANT, KEY, LAST, LOCK, PHASE, largest, largest_writer, one_left, table_of,
-    with_locks, writer,
+    ENTRY, GROUP, INSTANT, KEY, LAST, LOCK, PHASE, changed, largest, largest_writer, one_left,
+    table_of, writer,
 };
 use crate::tried::tried;
-use model::Mode;
 use model::instants::REQUESTED;
-use model::limits::GROUPS;
+use model::{Mode, Table};
 use std::io;
 use std::io::Write;
+
+// A table of a mode with the largest numbers but for a lock, which is above its limit.
+fn with_lock(mode: Mode, slot: usize) -> Table
+    requires { slot < groups }
+{
+    changed(largest(mode), |t| t.locks[slot] = LOCK + 1)
+}
 
 pub fn numbers(out: &mut impl Write) -> io::Result<()> {
     let x = largest_writer();
@@ -19,9 +28,7 @@ pub fn numbers(out: &mut impl Write) -> io::Result<()> {
         b"17: last timestamp",
         table_of(LAST + 1, ENTRY, INSTANT, x, x),
     )?;
-    let mut locks = [LOCK; GROUPS];
-    locks[0] = LOCK + 1;
-    tried(out, b"17: lock", with_locks(Mode::Optimistic, locks))?;
+    tried(out, b"17: lock", with_lock(Mode::Optimistic, 0))?;
     tried(
         out,
         b"17: index entry",
@@ -41,25 +48,22 @@ pub fn numbers(out: &mut impl Write) -> io::Result<()> {
 
 // A horizon above the last timestamp, in either mode.
 pub fn horizon(out: &mut impl Write) -> io::Result<()> {
-    let mut optimistic = one_left();
-    optimistic.horizon = LAST;
-    tried(out, b"17: horizon", optimistic)?;
-    let mut pessimistic = largest(Mode::Pessimistic);
-    pessimistic.horizon = LAST + 1;
-    tried(out, b"17: horizon, pessimistic", pessimistic)
+    tried(
+        out,
+        b"17: horizon",
+        changed(one_left(), |t| t.horizon = LAST),
+    )?;
+    tried(
+        out,
+        b"17: horizon, pessimistic",
+        changed(largest(Mode::Pessimistic), |t| t.horizon = LAST + 1),
+    )
 }
 
 // Every lock has the same limit, in either mode.
 pub fn locks(out: &mut impl Write) -> io::Result<()> {
-    let all = [LOCK; GROUPS];
-    let mut first = all;
-    let mut fourth = all;
-    let mut last = all;
-    first[0] = LOCK + 1;
-    fourth[3] = LOCK + 1;
-    last[7] = LOCK + 1;
-    tried(out, b"17: lock 3", with_locks(Mode::Optimistic, fourth))?;
-    tried(out, b"17: lock 7", with_locks(Mode::Optimistic, last))?;
+    tried(out, b"17: lock 3", with_lock(Mode::Optimistic, 3))?;
+    tried(out, b"17: lock 7", with_lock(Mode::Optimistic, 7))?;
     tried(
         out,
         b"17: no ground, pessimistic",
@@ -68,16 +72,16 @@ pub fn locks(out: &mut impl Write) -> io::Result<()> {
     tried(
         out,
         b"17: lock 0, pessimistic",
-        with_locks(Mode::Pessimistic, first),
+        with_lock(Mode::Pessimistic, 0),
     )?;
     tried(
         out,
         b"17: lock 3, pessimistic",
-        with_locks(Mode::Pessimistic, fourth),
+        with_lock(Mode::Pessimistic, 3),
     )?;
     tried(
         out,
         b"17: lock 7, pessimistic",
-        with_locks(Mode::Pessimistic, last),
+        with_lock(Mode::Pessimistic, 7),
     )
 }
