@@ -9,14 +9,14 @@ use std::io::Write;
 fn at_count(out: &mut impl Write, t: Table, count: u8) -> io::Result<()> {
     let mut x = t;
     x.counts[3] = count;
-    report::marked(out, b"count ", count as u64)?;
+    write!(out, "count {count}")?;
     choose(out, x, b": ", 3)
 }
 
 fn at_counts(out: &mut impl Write, label: &[u8], t: Table) -> io::Result<()> {
-    report::text(out, b"-- ")?;
-    report::text(out, label)?;
-    report::text(out, b"\n")?;
+    out.write_all(b"-- ")?;
+    out.write_all(label)?;
+    writeln!(out)?;
     at_count(out, t, 0)?;
     at_count(out, t, 1)?;
     at_count(out, t, 2)?;

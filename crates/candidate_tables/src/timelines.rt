@@ -54,7 +54,7 @@ fn at_phase(out: &mut impl Write, phase: u8) -> io::Result<()> {
     let mut t = looking(Mode::Optimistic, phase, 5, 9);
     t.places[0] = 1;
     t.noted[48] = 2;
-    report::marked(out, b"phase ", phase as u64)?;
+    write!(out, "phase {phase}")?;
     choose(out, t, b": ", 3)?;
     choose(out, t, b"past the last writer: ", 16)
 }

@@ -12,21 +12,6 @@ use model::{Found, InstantState, Value};
 use std::io;
 use std::io::Write;
 
-pub fn text(out: &mut impl Write, s: &[u8]) -> io::Result<()> {
-    out.write_all(s)
-}
-
-// A number, behind a mark.
-pub fn marked(out: &mut impl Write, mark: &[u8], n: u64) -> io::Result<()> {
-    out.write_all(mark)?;
-    write!(out, "{n}")
-}
-
-// A number, behind a space.
-pub fn number(out: &mut impl Write, n: u64) -> io::Result<()> {
-    write!(out, " {n}")
-}
-
 // A title on a line of its own.
 pub fn title(out: &mut impl Write, title: &[u8]) -> io::Result<()> {
     out.write_all(b"== ")?;
@@ -34,7 +19,7 @@ pub fn title(out: &mut impl Write, title: &[u8]) -> io::Result<()> {
     writeln!(out)
 }
 
-// The first bytes of a buffer.
+// The first bytes of a buffer, by their count: a run gives that, and a caller would have to show that a slice of it is there.
 fn bytes(out: &mut impl Write, buffer: &[u8], count: usize) -> io::Result<()> {
     for byte in buffer.iter().take(count) {
         write!(out, " {byte}")?;

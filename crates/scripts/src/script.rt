@@ -17,7 +17,7 @@ use std::io::Write;
 // Places for the answers of a piece: a start and its end for each timestamp.
 const PLACES: usize = 2 * TIMESTAMPS;
 
-// Runs a log, whole or step by step.
+// Runs a log, whole or step by step: by a flag, since of a closure the contract would have to ask what it says here of both.
 fn run_log(
     t: Table,
     present: &mut [bool; ROWS],

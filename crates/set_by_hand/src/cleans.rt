@@ -2,7 +2,6 @@
 use crate::set_rows;
 use model::limits::{GROUPS, KEYS, ROWS};
 use model::{Table, Value};
-use report::text;
 use scripts::{clean, play};
 use std::io;
 use std::io::Write;
@@ -39,9 +38,9 @@ fn clean_at(
     at: u8,
 ) -> io::Result<Table> {
     let after = clean(out, t, present, at as u64)?;
-    text(out, b"rows:")?;
+    write!(out, "rows:")?;
     stored_rows(out, present, values)?;
-    text(out, b"\n")?;
+    writeln!(out)?;
     Ok(after)
 }
 
