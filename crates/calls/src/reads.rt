@@ -92,6 +92,7 @@ pub fn reads(out: &mut impl Write) -> io::Result<()> {
     point_reads(out, t, &present, &values)
 }
 
+// The instants of the first timestamps and of none: not their lowest bits alone count.
 fn all_instants(out: &mut impl Write, t: Table) -> io::Result<()> {
     for at in 0..=8 {
         instant(out, t, at)?;

@@ -78,12 +78,11 @@ fn take(
 // Takes each item on the table that the last one left.
 pub fn take_each(
     out: &mut impl Write,
-    t: Table,
+    mut t: Table,
     present: &mut [bool; ROWS],
     values: &mut [Value; ROWS],
     input: &[u8],
 ) -> io::Result<()> {
-    let mut t = t;
     for item in Items(input) {
         t = take(out, t, present, values, item)?;
     }

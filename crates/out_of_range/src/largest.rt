@@ -57,10 +57,9 @@ pub fn largest(mode: Mode) -> Table {
 }
 
 // A table with the largest numbers, changed.
-pub fn changed<F: FnOnce(&mut Table)>(table: Table, change: F) -> Table
+pub fn changed<F: FnOnce(&mut Table)>(mut t: Table, change: F) -> Table
     requires { F.IsAlwaysCallable change }
 {
-    let mut t = table;
     change(&mut t);
     t
 }

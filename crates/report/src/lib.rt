@@ -61,7 +61,7 @@ fn row(out: &mut impl Write, numbers: &[Value]) -> io::Result<()> {
 }
 
 // The first rows of a buffer, a comma before each but the first.
-fn rows(out: &mut impl Write, buffer: &[Value], count: usize) -> io::Result<()> {
+pub fn rows(out: &mut impl Write, buffer: &[Value], count: usize) -> io::Result<()> {
     for (i, numbers) in buffer.chunks(3).take(count).enumerate() {
         if 0 < i {
             write!(out, ",")?;

@@ -121,7 +121,7 @@ impl<'a> Iterator for Script<'a> {
 // Runs each piece of a script on the table that the last one left, and reads the table after each.
 fn pieces(
     out: &mut impl Write,
-    t: Table,
+    mut t: Table,
     present: &mut [bool; ROWS],
     values: &mut [Value; ROWS],
     script: &[u8],
@@ -129,7 +129,6 @@ fn pieces(
     last: u64,
     by_steps: bool,
 ) -> io::Result<()> {
-    let mut t = t;
     for (label, log) in Script(script) {
         t = piece(out, t, present, values, label, log, first, last, by_steps)?;
     }

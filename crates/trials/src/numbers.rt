@@ -30,6 +30,7 @@ const FIELDS: usize = 8;
 // All numbers of a table but for its rows.
 pub const NUMBERS: usize = WRITERS_NUMBERS + FIELDS * WRITERS;
 
+// The mode of a number: 0 is optimistic, and every other pessimistic.
 fn mode_of(n: Word) -> Mode {
     if n == 0 {
         return Mode::Optimistic;
@@ -93,8 +94,7 @@ fn byte_of(n: Word) -> u8 {
 }
 
 // A table with another number at a place; past the last nothing changes.
-pub fn with_number(t: Table, place: usize, n: Word) -> Table {
-    let mut t = t;
+pub fn with_number(mut t: Table, place: usize, n: Word) -> Table {
     let byte = byte_of(n);
     match place {
         MODE => t.mode = mode_of(n),

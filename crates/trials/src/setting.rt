@@ -71,12 +71,11 @@ fn set_number(
 
 // Sets the numbers that the pairs name.
 pub fn set(
-    t: Table,
+    mut t: Table,
     present: &mut [bool; ROWS],
     values: &mut [Value; ROWS],
     input: &[u8],
 ) -> Table {
-    let mut t = t;
     for (place, n) in Pairs::of(input) {
         t = set_number(t, present, values, place as usize, n);
     }
