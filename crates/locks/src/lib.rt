@@ -38,7 +38,7 @@ pub fn blocked(mode: Mode, x: Writer, w: u8, locks: &[u8]) -> bool
     names_other(*held, w)
 }
 
-// The lock that the step takes, if it takes one, is set to `lock`, w + 1 for writer w.
+// The lock that the step takes, if it takes one, is set to `lock`, w + 1 for writer w. By its place: `get_mut` says nothing of the other locks.
 pub fn take_lock(mode: Mode, x: Writer, lock: u8, locks: &mut [u8])
     ensures { locks.new ≡ rules.locking mode x lock locks.old }
 {
@@ -48,7 +48,7 @@ pub fn take_lock(mode: Mode, x: Writer, lock: u8, locks: &mut [u8])
     }
 }
 
-// A lock after writer w has let go of it.
+// A lock after writer w has let go of it. In wider numbers and with no `Option`, so that the loop below runs on whole vectors.
 fn released(lock: u8, w: u8) -> u8
     ensures { result ≡ rules.released lock w }
 {

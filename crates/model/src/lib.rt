@@ -32,7 +32,8 @@ pub enum Mode {
     Pessimistic,
 }
 
-// The metadata of a table. Its rows are two arrays that stand beside it.
+// The metadata of a table. Its rows are two arrays that stand beside it. Phases, locks, entries and instants are bytes and no enums or Options: any may be
+// handed in, and one out of range has to be told (answer 17).
 #[derive(Clone, Copy)]
 pub struct Table {
     // First: at any other place padding stands before them, and the compiler copies them twice (docs/DECISIONS.md).

@@ -1,4 +1,5 @@
 // Prints the transcripts of the logs on standard input, run on fresh pessimistic tables.
+// Three lines for each mode: a program has an input and an output of its own.
 #![tactic(auto)]
 
 use model::Mode;

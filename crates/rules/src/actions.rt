@@ -163,7 +163,7 @@ fn abort(x: Writer) -> Verdict
     Verdict::Ended(ABORTED)
 }
 
-// The verdict of the rules on an action of writer w, whose own record is x.
+// The verdict of the rules on an action of writer w, whose own record is x. A match and no table of closures: each rule is lent other parts of the table.
 pub fn decide(
     mode: Mode,
     x: Writer,

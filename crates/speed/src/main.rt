@@ -46,6 +46,7 @@ fn pass(
     let mut rows: [Word; ROOM] = [0; ROOM];
     let mut t = table::fresh(Mode::Optimistic, present, values);
     let mut rest = log;
+    // No iterator: each run says how much of the log the next one has.
     while !rest.is_empty() {
         let ran = run::run_log(t, present, values, rest, &mut answers);
         t = ran.table;
