@@ -119,8 +119,8 @@ pub fn parts_in_range<'a>(
         (notes places.now counts.now noted.now)) }
 {
     shared_in_range(horizon, last, locks, index, timeline)
-        && writers_in_range(last, &writers)
         && notes_in_range(last, places, counts, noted)
+        && writers_in_range(last, &writers)
 }
 
 // The same of a table. Its rows have no number with a range.

@@ -37,7 +37,8 @@ pub fn newest_above(timeline: &[u8], group: u8, base: u8, last: u8) -> Search
     ensures { result ≡ newest_above timeline.now group base last }
 {
     let mut looked_at: u8 = 0;
-    for n in (base as usize + 1..=last as usize).rev() {
+    for below in (base as usize..last as usize).rev() {
+        let n = below + 1;
         looked_at += 1;
         if completed_in(timeline, n, group) {
             return Search {
