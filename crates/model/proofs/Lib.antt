@@ -40,3 +40,4 @@ pub mod StepLocks
 pub mod Exclusion
 pub mod Erased
 pub mod EnumNumbers
+pub mod RefusedCalls

@@ -5,3 +5,4 @@ pub mod Taken
 pub mod LogAsList
 pub mod RunState
 pub mod ListRuns
+pub mod OneToOne
